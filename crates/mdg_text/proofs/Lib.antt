@@ -1,0 +1,16 @@
+pub mod Steps
+pub mod Turns
+pub mod GapLemmas
+pub mod NumeralLemmas
+pub mod NameLemmas
+pub mod QuotedLemmas
+pub mod SortLemmas
+pub mod TokenLemmas
+pub mod WalkLemmas
+pub mod TextLemmas
+pub mod SpotLemmas
+pub mod PlaceLemmas
+pub mod UnitLemmas
+pub mod TableLemmas
+pub mod WayLemmas
+pub mod LineLemmas

@@ -1,0 +1,121 @@
+-- Steps through the reader's tests, and cuts of lists.
+use Rattle.std.proofs.Common.{◌≡◌, ℕ, zero, suc, ◌≤◌, ◌<◌, Bool, true, false, cond, not, ◌&&◌, ◌||◌, ◌==◌, ◌⊎◌, inl, inr, List, [], ◌∷◌, ◌++◌, length, arith, refl, ap, ◌∙◌, eqb-true, length-append, Contains, slice_index_or, eq-eqb}
+use Rattle.std.specs.Prelude.{Option, Some, None}
+use Rattle.std.proofs.lemmas.List.{take_at}
+use Rattle.mdg_text.specs.Characters.{starts}
+use Rattle.mdg_text.specs.Lexing.{Each}
+use Rattle.mdg_text.specs.Reading.{◌>>=◌, skip, before, same_text, is_in}
+
+pub some_is : {T : Type 0} (a b : T) → Some a ≡ Some b → a ≡ b
+some_is a b e = cc
+
+pub bind_ok : {A B : Type 0} (o : Option A) (f : A → Option B) (y : B) → (o >>= f) ≡ Some y → (x : A) × (o ≡ Some x) × (f x ≡ Some y)
+bind_ok None f y e = absurd cc
+bind_ok (Some x) f y e = (x, refl, e)
+
+pub chosen : {A : Type 0} (b : Bool) (x y z : A) → cond b x y ≡ z → ((b ≡ true) × (x ≡ z)) ⊎ ((b ≡ false) × (y ≡ z))
+chosen true x y z e = inl (refl, e)
+chosen false x y z e = inr (refl, e)
+
+pub guard_of : {A : Type 0} (b : Bool) (x : Option A) (y : A) → cond b x None ≡ Some y → (b ≡ true) × (x ≡ Some y)
+guard_of true x y e = (refl, e)
+guard_of false x y e = absurd cc
+
+pub both_true : (a b : Bool) → (a && b) ≡ true → (a ≡ true) × (b ≡ true)
+both_true true b e = (refl, e)
+both_true false b e = absurd cc
+
+pub either_true : (a b : Bool) → (a || b) ≡ true → (a ≡ true) ⊎ (b ≡ true)
+either_true true b e = inl refl
+either_true false b e = inr e
+
+pub neither : (a b : Bool) → (a || b) ≡ false → (a ≡ false) × (b ≡ false)
+neither true b e = absurd cc
+neither false b e = (refl, e)
+
+pub not_true : (a : Bool) → not a ≡ true → a ≡ false
+not_true true e = absurd cc
+not_true false e = refl
+
+pub decided : (b : Bool) → (b ≡ true) ⊎ (b ≡ false)
+decided true = inl refl
+decided false = inr refl
+
+-- what is skipped is gone, where the rest does not go on
+pub skip-append : (p : ℕ → Bool) (a x : List ℕ) → Each p a → starts p x ≡ false → skip p (a ++ x) ≡ x
+unfolding skip
+skip-append p [] [] e s = refl
+skip-append p [] (c ∷ cs) e s = rw s
+skip-append p (d ∷ ds) x e s = rw e.0 (skip-append p ds x e.1 s)
+
+pub record Skipped (p : ℕ → Bool) (text : List ℕ) : Type 0 where
+  pub front : List ℕ
+  pub cut : text ≡ front ++ skip p text
+  pub each : Each p front
+
+pub skipped : (p : ℕ → Bool) (text : List ℕ) → Skipped p text
+unfolding skip
+skipped p [] = record { front = []; cut = refl; each = tt }
+skipped p (c ∷ cs) =
+    let s = skipped p cs in
+    elim (decided (p c)) [
+      | inl on ↦ record { front = c ∷ s.front; cut = rw on (ap (λ (l : List ℕ). c ∷ l) s.cut); each = (on, s.each) }
+      | inr off ↦ record { front = []; cut = rw off refl; each = tt }
+    ]
+
+pub skip_stops : (p : ℕ → Bool) (text : List ℕ) → starts p (skip p text) ≡ false
+unfolding skip
+skip_stops p [] = refl
+skip_stops p (c ∷ cs) = elim (decided (p c)) [ inl on ↦ rw on (skip_stops p cs) | inr off ↦ rw off off ]
+
+pub before-append : (a x : List ℕ) → before (a ++ x) x ≡ a
+unfolding before
+before-append a x = take_at a x _ (omega (arith, length-append a x))
+
+-- the front is what stands before the rest
+pub before_is : (text a x : List ℕ) → text ≡ a ++ x → before text x ≡ a
+before_is text a x e = ap (λ t. before t x) e ∙ before-append a x
+
+pub same_text-self : (x : List ℕ) → same_text x x ≡ true
+unfolding same_text
+same_text-self [] = refl
+same_text-self (c ∷ cs) = rw (eq-eqb c c refl) (same_text-self cs)
+
+pub same_text-true : (x y : List ℕ) → same_text x y ≡ true → x ≡ y
+unfolding same_text
+same_text-true [] [] e = refl
+same_text-true [] (d ∷ ds) e = absurd cc
+same_text-true (c ∷ cs) [] e = absurd cc
+same_text-true (c ∷ cs) (d ∷ ds) e = let b = both_true (c == d) (same_text cs ds) e in
+    let h : c ≡ d = eqb-true c d b.0 in let t : cs ≡ ds = same_text-true cs ds b.1 in cc
+
+pub is_in-true : (ys : List (List ℕ)) (x : List ℕ) → is_in ys x ≡ true → Contains ys x
+unfolding is_in
+is_in-true [] x e = absurd cc
+is_in-true (y ∷ ys) x e = elim (either_true (same_text y x) (is_in ys x) e) [
+  | inl h ↦ (0, omega arith, same_text-true y x h)
+  | inr h ↦ (let r = is_in-true ys x h in (suc r.0, omega arith, r.2))
+]
+
+in_at : (ys : List (List ℕ)) (x : List ℕ) (i : ℕ) → i < length ys → slice_index_or ys i x ≡ x → is_in ys x ≡ true
+unfolding is_in
+in_at [] x i h e = absurd (omega arith)
+in_at (y ∷ ys) x zero h e = rw e (rw (same_text-self x) refl)
+in_at (y ∷ ys) x (suc i) h e = elim (decided (same_text y x)) [ inl on ↦ rw on refl | inr off ↦ rw off (in_at ys x i (omega arith) e) ]
+
+pub is_in-contains : (ys : List (List ℕ)) (x : List ℕ) → Contains ys x → is_in ys x ≡ true
+is_in-contains ys x c = in_at ys x c.0 c.1 c.2
+
+pub contradict : {b : Bool} → b ≡ true → b ≡ false → ⊥
+contradict p q = cc
+
+-- what is skipped is at least what passes
+pub skip_most : (p : ℕ → Bool) (a x : List ℕ) → Each p a → length (skip p (a ++ x)) ≤ length x
+unfolding skip
+skip_most p [] [] e = omega arith
+skip_most p [] (c ∷ cs) e = let s = skipped p (c ∷ cs) in omega (arith, ap length s.cut, length-append s.front (skip p (c ∷ cs)))
+skip_most p (d ∷ ds) x e = rw e.0 (skip_most p ds x e.1)
+
+pub either_right : (a b : Bool) → b ≡ true → (a || b) ≡ true
+either_right true b e = refl
+either_right false b e = e

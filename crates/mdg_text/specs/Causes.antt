@@ -1,0 +1,57 @@
+-- What each answer says of the bytes.
+use Rattle.std.specs.Prelude.{ℕ, ◌≡◌, ◌≤◌, List, length, Result, Ok, Err, IfOk, All, ◌⊎◌}
+use Rattle.std.specs.Str.{IsUtf8, chars}
+use Rattle.std.specs.Str.Lossy.{utf8_valid_len}
+use Rattle.mdg_text.specs.declared.token.Token.{Token}
+use Rattle.mdg_text.specs.declared.token.TextFault.{TextFault}
+use Rattle.mdg_text.specs.declared.token.TextFault.TheVariants.{NoMemory, NotUtf8, BadToken, TooManyTokens}
+use Rattle.mdg_text.specs.Lexing.{Lexes, Stuck, Has}
+use Rattle.mdg_text.specs.Lines.{line_at}
+
+-- of the characters
+abbrev pub HasCauseIn : List ℕ → Result (List Token) TextFault → Type 0
+HasCauseIn text (Ok tokens) = Lexes text tokens × (length tokens ≤ 400000)
+HasCauseIn text (Err NoMemory) = Unit {0}
+HasCauseIn text (Err (NotUtf8 offset)) = ⊥
+HasCauseIn text (Err (BadToken offset)) = (count : ℕ) × (count ≤ 400000) × Stuck text count offset
+HasCauseIn text (Err (TooManyTokens count)) = Has text 400001 × (count ≡ 400001)
+
+-- of the bytes
+abbrev pub HasCause : List ℕ → Result (List Token) TextFault → Type 0
+HasCause bytes (Ok tokens) = IsUtf8 bytes × HasCauseIn (chars bytes) (Ok tokens)
+HasCause bytes (Err NoMemory) = IsUtf8 bytes
+HasCause bytes (Err (NotUtf8 offset)) = ¬ (IsUtf8 bytes) × (offset ≡ utf8_valid_len bytes)
+HasCause bytes (Err (BadToken offset)) = IsUtf8 bytes × HasCauseIn (chars bytes) (Err (BadToken offset))
+HasCause bytes (Err (TooManyTokens count)) = IsUtf8 bytes × HasCauseIn (chars bytes) (Err (TooManyTokens count))
+
+-- this answer, unless memory is refused
+abbrev pub IsUnlessMemory : Result (List Token) TextFault → Result (List Token) TextFault → Type 0
+IsUnlessMemory result wanted = (result ≡ wanted) ⊎ (result ≡ Err NoMemory)
+
+-- a list of tokens is answered,
+abbrev pub AnswersList : List ℕ → Result (List Token) TextFault → Type 0
+AnswersList text result = (tokens : List Token) → Lexes text tokens → length tokens ≤ 400000 → IsUnlessMemory result (Ok tokens)
+
+-- an offset at which the walk gets stuck is,
+abbrev pub AnswersStuck : List ℕ → Result (List Token) TextFault → Type 0
+AnswersStuck text result = (count offset : ℕ) → Stuck text count offset → count ≤ 400000 → IsUnlessMemory result (Err (BadToken offset))
+
+-- and so is a token that is too many
+abbrev pub AnswersMany : List ℕ → Result (List Token) TextFault → Type 0
+AnswersMany text result = Has text 400001 → IsUnlessMemory result (Err (TooManyTokens 400001))
+
+-- a text has at most one list of tokens
+abbrev pub HasOneList : Type 0
+HasOneList = (text : List ℕ) (tokens others : List Token) → Lexes text tokens → Lexes text others → tokens ≡ others
+
+-- never a list and an offset at which the walk gets stuck
+abbrev pub IsNeverBoth : Type 0
+IsNeverBoth = (text : List ℕ) (tokens : List Token) (count offset : ℕ) → Lexes text tokens → Stuck text count offset → ⊥
+
+-- and at most one such offset
+abbrev pub HasOneStop : Type 0
+HasOneStop = (text : List ℕ) (count offset count' offset' : ℕ) → Stuck text count offset → Stuck text count' offset' → offset ≡ offset'
+
+-- each token's line is that of its offset
+abbrev pub HasLines : List ℕ → Result (List Token) TextFault → Type 0
+HasLines bytes result = IfOk result (λ tokens. All (λ token. token.line ≡ line_at bytes token.from) tokens)

@@ -1,0 +1,12 @@
+pub mod Characters
+pub mod Tables
+pub mod Lexing
+pub mod Reading
+pub mod Walk
+pub mod Answers
+pub mod Causes
+pub mod Spots
+pub mod Places
+pub mod Parts
+pub mod Found
+pub mod Lines

@@ -1,0 +1,203 @@
+//! One token: of the four classes the longest.
+
+ghost use Rattle.std.specs.Prelude.{◌≡◌, ◌≤◌, ◌<◌, ◌+◌, ◌-◌, length, drop, take, IfOk, IfSome};
+ghost use Rattle.std.specs.Str.{encode_utf8_all};
+ghost use Rattle.mdg_text.specs.Characters as character;
+ghost use Rattle.mdg_text.specs.Reading as spec;
+ghost use Rattle.mdg_text.specs.Tables.{marks};
+ghost use Rattle.mdg_text.specs.Found.{found_at};
+
+use crate::TokenKind;
+use crate::character::{is_part, is_quote, is_start};
+use crate::mark::is_mark;
+use crate::numeral::numeral;
+use crate::quoted::body;
+use crate::word::is_word;
+use mdg_base::{NoMemory, Text};
+use std::alloc::Global;
+
+/// A token that begins at a place, and the place behind it.
+#[derive(Debug, Drop)]
+pub(crate) struct Lexeme {
+    pub kind: TokenKind,
+    pub value: Text,
+    pub next: usize,
+}
+
+/// A text of these characters.
+fn text_of(alloc: Global, characters: &[char]) -> Result<Text, NoMemory>
+    ensures { IfOk result (λ t. t ≡ encode_utf8_all characters.now) }
+{
+    let text: String = characters.iter().copied().collect(alloc)?;
+    Text::of(alloc, text.as_str())
+}
+
+/// The text between two places.
+#[tactic(auto, using(crate::proofs::PlaceLemmas::between))]
+fn spelling(alloc: Global, text: &[char], from: usize, to: usize) -> Result<Text, NoMemory>
+    requires order { from ≤ to }
+    requires inside { to ≤ length text.now }
+    ensures { IfOk result (λ t. t ≡ encode_utf8_all (spec.before (drop from text.now) (drop to text.now))) }
+{
+    text_of(alloc, &text[from..to])
+}
+
+#[tactic(auto, using(crate::proofs::PlaceLemmas::skips))]
+fn after_parts(text: &[char], at: usize) -> usize
+    requires { at ≤ length text.now }
+    ensures from { at ≤ result }
+    ensures bound { result ≤ length text.now }
+    ensures rest { spec.skip character.is_part (drop at text.now) ≡ drop result text.now }
+{
+    let mut i = at;
+    while i < text.len() {
+        if !is_part(text[i]) {
+            return i;
+        }
+        i += 1;
+    }
+    i
+}
+
+fn kind_of(text: &str) -> TokenKind
+    ensures { result ≡ spec.kind_of text.now }
+{
+    if is_word(text) {
+        TokenKind::Word
+    } else {
+        TokenKind::Name
+    }
+}
+
+/// A name or a word.
+#[tactic(auto, using(crate::proofs::PlaceLemmas::front), unfolding(crate::specs::Reading::name_at))]
+fn name_at(alloc: Global, text: &[char], at: usize) -> Result<Option<Lexeme>, NoMemory>
+    requires { at ≤ length text.now }
+    ensures bound { IfOk result (λ o. IfSome o (λ f. f.next ≤ length text.now)) }
+    ensures reads { IfOk result (λ o. spec.name_at (drop at text.now) ≡ found_at text.now o) }
+{
+    if at == text.len() {
+        return Ok(None);
+    }
+    if !is_start(text[at]) {
+        return Ok(None);
+    }
+    let next = after_parts(text, at + 1);
+    let value = spelling(alloc, text, at, next)?;
+    let kind = kind_of(value.as_str());
+    Ok(Some(Lexeme { kind, value, next }))
+}
+
+#[tactic(auto, using(crate::proofs::PlaceLemmas::front), unfolding(crate::specs::Reading::numeral_at))]
+fn numeral_at(alloc: Global, text: &[char], at: usize) -> Result<Option<Lexeme>, NoMemory>
+    requires { at ≤ length text.now }
+    ensures bound { IfOk result (λ o. IfSome o (λ f. f.next ≤ length text.now)) }
+    ensures reads { IfOk result (λ o. spec.numeral_at (drop at text.now) ≡ found_at text.now o) }
+{
+    let Some(next) = numeral(text, at) else {
+        return Ok(None);
+    };
+    let value = spelling(alloc, text, at, next)?;
+    Ok(Some(Lexeme {
+        kind: TokenKind::Numeral,
+        value,
+        next,
+    }))
+}
+
+#[tactic(auto, using(crate::proofs::PlaceLemmas::front), unfolding(crate::specs::Reading::text_at))]
+fn text_at(alloc: Global, text: &[char], at: usize) -> Result<Option<Lexeme>, NoMemory>
+    requires { at ≤ length text.now }
+    ensures bound { IfOk result (λ o. IfSome o (λ f. f.next ≤ length text.now)) }
+    ensures reads { IfOk result (λ o. spec.text_at (length text.now) (drop at text.now) ≡ found_at text.now o) }
+{
+    if at == text.len() {
+        return Ok(None);
+    }
+    let quote = text[at];
+    if !is_quote(quote) {
+        return Ok(None);
+    }
+    let Some(quoted) = body(alloc, text, quote, at + 1)? else {
+        return Ok(None);
+    };
+    let value = text_of(alloc, quoted.value.as_slice())?;
+    Ok(Some(Lexeme {
+        kind: TokenKind::Text,
+        value,
+        next: quoted.next,
+    }))
+}
+
+#[tactic(auto, using(crate::proofs::PlaceLemmas::ranged))]
+fn is_mark_at(text: &[char], at: usize, size: usize) -> bool
+    requires { at + size ≤ length text.now }
+    ensures { result ≡ spec.is_in marks (take size (drop at text.now)) }
+{
+    is_mark(&text[at..at + size])
+}
+
+#[tactic(auto, using(crate::proofs::PlaceLemmas::ranged))]
+fn copied(alloc: Global, text: &[char], at: usize, size: usize) -> Result<Text, NoMemory>
+    requires { at + size ≤ length text.now }
+    ensures { IfOk result (λ t. t ≡ encode_utf8_all (take size (drop at text.now))) }
+{
+    text_of(alloc, &text[at..at + size])
+}
+
+/// The longest mark of at most `most` characters.
+fn mark_at(alloc: Global, text: &[char], at: usize, most: usize) -> Result<Option<Lexeme>, NoMemory>
+    requires { at ≤ length text.now }
+    ensures bound { IfOk result (λ o. IfSome o (λ f. f.next ≤ length text.now)) }
+    ensures reads { IfOk result (λ o. spec.mark_of most (drop at text.now) ≡ found_at text.now o) }
+{
+    if most == 0 {
+        return Ok(None);
+    }
+    if text.len() - at < most {
+        return mark_at(alloc, text, at, most - 1);
+    }
+    if !is_mark_at(text, at, most) {
+        return mark_at(alloc, text, at, most - 1);
+    }
+    let value = copied(alloc, text, at, most)?;
+    Ok(Some(Lexeme {
+        kind: TokenKind::Mark,
+        value,
+        next: at + most,
+    }))
+}
+
+#[tactic(auto, unfolding(crate::specs::Reading::longer))]
+fn longer(text: &[char], a: Option<Lexeme>, b: Option<Lexeme>) -> Option<Lexeme>
+    requires left { IfSome a (λ f. f.next ≤ length text.now) }
+    requires right { IfSome b (λ f. f.next ≤ length text.now) }
+    ensures bound { IfSome result (λ f. f.next ≤ length text.now) }
+    ensures reads { spec.longer (found_at text.now a) (found_at text.now b) ≡ found_at text.now result }
+{
+    let Some(x) = a else {
+        return b;
+    };
+    let Some(y) = b else {
+        return Some(x);
+    };
+    if y.next <= x.next { Some(x) } else { Some(y) }
+}
+
+/// The longest token that begins at the place.
+#[tactic(auto, unfolding(crate::specs::Reading::token_at))]
+pub(crate) fn token_at(alloc: Global, text: &[char], at: usize) -> Result<Option<Lexeme>, NoMemory>
+    requires { at ≤ length text.now }
+    ensures bound { IfOk result (λ o. IfSome o (λ f. f.next ≤ length text.now)) }
+    ensures reads { IfOk result (λ o. spec.token_at (length text.now) (drop at text.now) ≡ found_at text.now o) }
+{
+    let name = name_at(alloc, text, at)?;
+    let numeral = numeral_at(alloc, text, at)?;
+    let quoted = text_at(alloc, text, at)?;
+    let mark = mark_at(alloc, text, at, 4)?;
+    Ok(longer(
+        text,
+        name,
+        longer(text, numeral, longer(text, quoted, mark)),
+    ))
+}
