@@ -1,0 +1,14 @@
+use Rattle.std.proofs.Common.{◌≡◌, List, sym, subst}
+use Rattle.mdg_scan.specs.Parts.{IsPart, IsFieldOf, first_row}
+use Rattle.mdg_scan.specs.declared.first.fact.Fact.{Fact}
+use Rattle.mdg_scan.specs.declared.first.fact.Row.TheVariants as row
+use Rattle.mdg_scan.proofs.PartLemmas.{IsPart-same, IsFieldOf-group}
+use Rattle.mdg_scan.proofs.first.facts.Facts.fields.Goals as goal
+
+pub returns : goal.returns
+returns c =
+    let at = row.Field c.args.node (record { 0 = 0 }) in
+    let part : IsPart (λ f. first_row f.row ≡ at) c.args.self.now c.shelf.result.now =
+    subst (λ (facts : List Fact). IsPart (λ f. first_row f.row ≡ at) facts c.shelf.result.now) c.self.view_is
+    (subst (λ (part : List Fact). IsPart (λ f. first_row f.row ≡ at) c.self.inside.list.items part) (sym c.shelf.ensures) (c.self.invariant.1 at)) in
+    IsPart-same (λ f. first_row f.row ≡ at) (IsFieldOf c.args.node) c.args.self.now c.shelf.result.now (IsFieldOf-group c.args.node) part

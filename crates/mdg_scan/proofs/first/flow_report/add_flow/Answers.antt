@@ -1,0 +1,9 @@
+use Rattle.std.proofs.Common.{rules}
+use Rattle.std.proofs.lemmas.Result.{IfOk-equal}
+use mathlib.Core.List.{append_assoc}
+use Rattle.mdg_scan.specs.Report.{flow_line}
+use Rattle.mdg_scan.proofs.first.flow_report.add_flow.Goals as goal
+
+pub returns : goal.returns
+unfolding flow_line
+returns c = search (rules, IfOk-equal, append_assoc)

@@ -1,0 +1,162 @@
+ghost use Rattle.std.specs.Prelude.{◌≡◌, ◌≢◌, ◌⊎◌, ◌≤◌, ◌<◌, ◌-◌, ◌^◌, ℕ, List, false, IfOk, IfSome};
+ghost use Rattle.std.specs.Io.KnownBytes.{Appends, Keeps};
+ghost use Rattle.mdg_port.specs.Bytes.{AppendsProperFront};
+ghost use Rattle.mdg_port.specs.Causes.{Rose, Stood};
+ghost use Rattle.mdg_port.specs.Held.{Held};
+ghost use Rattle.mdg_port.specs.Reads.{IsWithin};
+ghost use Rattle.mdg_scan.specs.Answer.{IsAnswer, IsFileAnswer, asks, index, is_scan, read_fault, texts_of, usage_reply};
+ghost use Rattle.mdg_scan.specs.Scan.{IsAnswerBegun, IsAnswered, IsSomeAnswer, IsSomeAnswered, IsSomeFaultWritten, IsSomeReadFault, IsToldAnswer, IsWhole, IsWritten, ReadAll, TellsLastRead, fault_answer};
+ghost use Rattle.mdg_scan.specs.declared.reply.Reply.{Reply};
+
+use crate::first::{answer_of_file, refused};
+use crate::{Reply, Status};
+use mdg_base::{NoMemory, Text};
+use mdg_port::{Fetched, Folder, FolderFault, Gate, Sink, SinkFailed, write_whole};
+use std::alloc::Global;
+use std::thread::Threads;
+
+const INDEX: &str = "index.js";
+
+// In bytes.
+const INDEX_LIMIT: u64 = 4096;
+
+/// Does what the words ask: reads the folder, and writes the whole answer to the sink.
+///
+/// The words leave out the program's name. Until there are more commands the one word `scan` is in form: the file
+/// `index.js` of the folder is read, with at most 4,096 bytes. Nothing is written before the whole answer is made.
+/// Neither `rt` nor `gate` is used yet.
+pub fn scan<R: Threads + Sync, F: Folder, S: Sink, G: Gate>(
+    _rt: &R,
+    alloc: Global,
+    words: &[String],
+    folder: &mut F,
+    out: &mut S,
+    _gate: &G,
+) -> Status
+    // Where no call failed, the answer is the one that is defined, and exactly its text is written.
+    ensures answered { IfSome (F.held folder.old) (λ held.
+        Stood (F.faults folder.old) (F.faults folder.new) → Stood (S.faults out.old) (S.faults out.new) → result ≢ Status.NoMemory
+        → IsAnswered (texts_of words.now) held result (S.written out.old) (S.written out.new)) }
+
+    // Each answer from `Clean` to `Usage` is the defined one, and is written whole.
+    ensures whole { IsWhole result → IfSome (F.held folder.old) (λ held.
+        IsAnswered (texts_of words.now) held result (S.written out.old) (S.written out.new)) }
+    ensures some_whole { IsWhole result → IsSomeAnswered (texts_of words.now) result (S.written out.old) (S.written out.new) }
+
+    // A failed read is told whole, with the path that was read last.
+    ensures fault { result ≡ Status.ReadFault → Rose (F.faults folder.old) (F.faults folder.new) }
+    ensures fault_path { result ≡ Status.ReadFault → IfSome (F.held folder.old) (λ held. F.reads folder.new < 2 ^ 64 - 1
+        → IsWritten (fault_answer (texts_of words.now) held (F.reads folder.old) (F.reads folder.new)) result (S.written out.old) (S.written out.new)) }
+    ensures some_fault { result ≡ Status.ReadFault → IsSomeFaultWritten (S.written out.old) (S.written out.new) }
+
+    // A failed write leaves a proper front of the text that was to be written.
+    ensures write_fault { result ≡ Status.WriteFault → Rose (S.faults out.old) (S.faults out.new) }
+    ensures front { result ≡ Status.WriteFault → IfSome (F.held folder.old) (λ held. F.reads folder.new < 2 ^ 64 - 1
+        → IsAnswerBegun (texts_of words.now) held (S.written out.old) (S.written out.new)
+        ⊎ (Rose (F.faults folder.old) (F.faults folder.new)
+        × AppendsProperFront (S.written out.old) (S.written out.new)
+        (fault_answer (texts_of words.now) held (F.reads folder.old) (F.reads folder.new)).text)) }
+
+    ensures all_read { Stood (F.faults folder.old) (F.faults folder.new) → result ≢ Status.NoMemory
+        → ReadAll (texts_of words.now) (F.held folder.old) (F.reads folder.old) (F.reads folder.new) }
+
+    // Where memory was refused, nothing is written.
+    ensures memory { result ≡ Status.NoMemory → Keeps (S.written out.old) (S.written out.new) }
+
+    // A wrong use is told only where the words are out of form, and there always but for a failed write.
+    ensures usage { result ≡ Status.Usage → is_scan (texts_of words.now) ≡ false }
+    ensures usage_told { is_scan (texts_of words.now) ≡ false → Stood (S.faults out.old) (S.faults out.new) → result ≢ Status.NoMemory
+        → result ≡ Status.Usage }
+{
+    let Ok(reply) = reply_to(alloc, words, folder) else {
+        return Status::NoMemory;
+    };
+    match write_whole(out, reply.text.as_str().as_bytes()) {
+        Ok(()) => reply.status,
+        Err(SinkFailed) => Status::WriteFault,
+    }
+}
+
+/// There is at most one answer for these words and a folder that holds this.
+pub fn law_one_answer()
+    ensures { (words : List (List ℕ)) (held : Held) (one other : Reply) → IsAnswer words held one → IsAnswer words held other → one ≡ other }
+{}
+
+fn is_scan_alone(words: &[String]) -> bool
+    ensures { result ≡ is_scan (texts_of words.now) }
+{
+    match words {
+        [word] => word.as_str() == "scan",
+        _ => false,
+    }
+}
+
+// What is answered for what a read of the file gave.
+fn answer_of_fetched(alloc: Global, fetched: Fetched) -> Result<Reply, NoMemory>
+    requires { IsWithin 4096 fetched }
+    ensures { IfOk result (IsFileAnswer fetched) }
+{
+    match fetched {
+        Fetched::Absent => refused(alloc, "NoFile index.js"),
+        Fetched::TooLong => refused(alloc, "TooLong index.js"),
+        Fetched::Bytes(bytes) => answer_of_file(alloc, bytes.as_slice()),
+    }
+}
+
+// Reads what the command needs, and makes the whole answer before anything is written.
+fn reply_to<F: Folder>(alloc: Global, words: &[String], folder: &mut F) -> Result<Reply, NoMemory>
+    ensures later { F.faults folder.old ≤ F.faults folder.new }
+
+    ensures answered { IfOk result (λ reply. reply.status ≢ Status.ReadFault
+        → IsToldAnswer (texts_of words.now) (F.held folder.old) reply) }
+    ensures some_answer { IfOk result (λ reply. reply.status ≢ Status.ReadFault
+        → IsSomeAnswer (texts_of words.now) reply) }
+    ensures all_read { IfOk result (λ reply. reply.status ≢ Status.ReadFault
+        → ReadAll (texts_of words.now) (F.held folder.old) (F.reads folder.old) (F.reads folder.new)) }
+
+    ensures usage { is_scan (texts_of words.now) ≡ false → IfOk result (λ reply. reply ≡ usage_reply) }
+    ensures usage_only { IfOk result (λ reply. reply.status ≡ Status.Usage → is_scan (texts_of words.now) ≡ false) }
+
+    ensures fault { IfOk result (λ reply. reply.status ≡ Status.ReadFault
+        → Rose (F.faults folder.old) (F.faults folder.new)) }
+    ensures last_read { IfOk result (λ reply. reply.status ≡ Status.ReadFault
+        → TellsLastRead (texts_of words.now) (F.held folder.old) (F.reads folder.old) (F.reads folder.new) reply) }
+    ensures some_fault { IfOk result (λ reply. reply.status ≡ Status.ReadFault → IsSomeReadFault reply) }
+
+    // No other status comes from here.
+    ensures not_write { IfOk result (λ reply. reply.status ≢ Status.WriteFault) }
+    ensures not_memory { IfOk result (λ reply. reply.status ≢ Status.NoMemory) }
+{
+    if !is_scan_alone(words) {
+        return reply_by_usage(alloc);
+    }
+    match folder.read(alloc, INDEX, INDEX_LIMIT) {
+        Ok(fetched) => answer_of_fetched(alloc, fetched),
+        Err(FolderFault::NoMemory) => Err(NoMemory),
+        Err(FolderFault::Failed) => reply_by_fault(alloc),
+    }
+}
+
+fn reply_by_usage(alloc: Global) -> Result<Reply, NoMemory>
+    ensures { IfOk result (λ reply. reply ≡ usage_reply) }
+{
+    let mut text = Text::of(
+        alloc,
+        "usage: mdg scan [--workers N] [--json] [--profile FILE]\n",
+    )?;
+    text.add("       mdg replay FILE\n")?;
+    text.add("       mdg sample N [--workers N]\n")?;
+    Ok(Reply {
+        status: Status::Usage,
+        text,
+    })
+}
+
+fn reply_by_fault(alloc: Global) -> Result<Reply, NoMemory>
+    ensures { IfOk result (λ reply. reply ≡ read_fault index) }
+{
+    Ok(Reply {
+        status: Status::ReadFault,
+        text: Text::of(alloc, "read fault index.js\n")?,
+    })
+}
