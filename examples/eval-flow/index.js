@@ -1,0 +1,4 @@
+'use strict';
+function run(a) { eval(a + 'x'); }
+function helper(b) { eval(b); }
+module.exports = run;
