@@ -1,0 +1,5 @@
+pub mod Keys
+pub mod Unique
+pub mod Numbers
+pub mod Turns
+pub mod Answer

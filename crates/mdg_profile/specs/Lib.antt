@@ -1,2 +1,7 @@
 pub mod Listing
 pub mod Table
+pub mod Members
+pub mod Entries
+pub mod Parts
+pub mod Format
+pub mod Listed
