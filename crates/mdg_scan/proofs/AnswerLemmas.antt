@@ -1,5 +1,5 @@
 -- What is answered.
-use Rattle.std.proofs.Common.{◌≡◌, ◌≢◌, ◌⊎◌, inl, inr, ⊎_elim, List, [], ◌∷◌, ◌++◌, ℕ, suc, ◌+◌, ◌<◌, ◌≤◌, ◌^◌, Bool, true, false, length, refl, sym, ◌∙◌, ap, subst, arith, get_or, take}
+use Rattle.std.proofs.Common.{◌≡◌, ◌≢◌, ◌⊎◌, inl, inr, ⊎_elim, List, [], ◌∷◌, ◌++◌, ℕ, suc, ◌+◌, ◌<◌, ◌≤◌, ◌^◌, length, refl, sym, ◌∙◌, ap, subst, arith, get_or, take}
 use Rattle.std.specs.Prelude.{Contains}
 use mathlib.Core.List.{append_assoc}
 use Rattle.std.proofs.lemmas.List.{append-nil, take_more}
@@ -7,6 +7,8 @@ use Rattle.mdg_port.specs.Held.{Held}
 use Rattle.mdg_port.specs.Reads.{fetched}
 use Rattle.mdg_port.specs.declared.folder.Fetched.{Fetched}
 use Rattle.mdg_port.specs.declared.folder.Fetched.TheVariants.{Absent, TooLong, Bytes}
+use Rattle.mdg_scan.specs.declared.command.Task.{Task}
+use Rattle.mdg_scan.specs.declared.command.Task.TheVariants as task
 use Rattle.mdg_scan.specs.declared.first.code.Code.{Code}
 use Rattle.mdg_scan.specs.declared.first.flow.Flow.{Flow}
 use Rattle.mdg_scan.specs.declared.first.fact.Fact.{Fact}
@@ -15,7 +17,7 @@ use Rattle.mdg_scan.specs.declared.first.form.FormFunction.{FormFunction}
 use Rattle.mdg_scan.specs.declared.reply.Reply.{Reply}
 use Rattle.mdg_scan.specs.declared.status.Status.{Status}
 use Rattle.mdg_scan.specs.declared.status.Status.TheVariants.{Clean, Findings, Refused}
-use Rattle.mdg_scan.specs.Answer.{IsReport, IsReadingAnswer, IsFileAnswer, IsAnswerWhere, IsAnswer, is_scan, index, index_limit}
+use Rattle.mdg_scan.specs.Answer.{IsReport, IsReadingAnswer, IsFileAnswer, IsAnswerWhere, IsAnswer, task_by, index, index_limit}
 use Rattle.mdg_scan.specs.CodeShape.{IsWellFormed}
 use Rattle.mdg_scan.specs.Flows.{AreFlows}
 use Rattle.mdg_scan.specs.Form.{Reading, not_strict, no_tree, in_form}
@@ -41,12 +43,13 @@ one_file Absent one other first last = first ∙ sym last
 one_file TooLong one other first last = first ∙ sym last
 one_file (Bytes bytes) one other first last = one_reading _ one other first last
 
-one_where : (in_form : Bool) (held : Held) (one other : Reply) → IsAnswerWhere in_form held one → IsAnswerWhere in_form held other → one ≡ other
-one_where true held one other first last = one_file (fetched held index index_limit) one other first last
-one_where false held one other first last = first ∙ sym last
+one_where : (asked : Task) (held : Held) (one other : Reply) → IsAnswerWhere asked held one → IsAnswerWhere asked held other → one ≡ other
+one_where task.Scan held one other first last = one_file (fetched held index index_limit) one other first last
+one_where task.NotBuilt held one other first last = first ∙ sym last
+one_where task.Usage held one other first last = first ∙ sym last
 
 pub one_answer : (words : List (List ℕ)) (held : Held) (one other : Reply) → IsAnswer words held one → IsAnswer words held other → one ≡ other
-one_answer words held one other first last = one_where (is_scan words) held one other first last
+one_answer words held one other first last = one_where (task_by words) held one other first last
 
 -- ---- the flows of the grown facts are those of the graph
 

@@ -1,6 +1,6 @@
 -- Each answer is the answer for something that a folder may hold.
-use Rattle.std.proofs.Common.{◌≡◌, ◌≢◌, ℕ, ◌<◌, ◌+◌, ◌-◌, ◌^◌, List, length, Bool, true, false, cond, ap, sym, ◌∙◌, subst, refl, arith}
-use Rattle.std.specs.Prelude.{replicate, IfSome}
+use Rattle.std.proofs.Common.{◌≡◌, ◌≢◌, ℕ, ◌<◌, ◌+◌, ◌-◌, ◌^◌, List, length, cond, ap, sym, ◌∙◌, subst, refl, arith}
+use Rattle.std.specs.Prelude.{codes, replicate, IfSome}
 use Rattle.std.specs.declared.option.Option.{Option}
 use Rattle.std.specs.declared.option.Option.TheVariants.{Some, None}
 use Rattle.std.specs.Ordering.{nat_cmp}
@@ -13,10 +13,12 @@ use Rattle.mdg_port.specs.Held.{Held, held_at, held_with, held_nothing}
 use Rattle.mdg_port.specs.Reads.{fetched, fetched_of, IsWithin}
 use Rattle.mdg_port.specs.declared.folder.Fetched.{Fetched}
 use Rattle.mdg_port.specs.declared.folder.Fetched.TheVariants.{Absent, TooLong, Bytes}
+use Rattle.mdg_scan.specs.declared.command.Task.{Task}
+use Rattle.mdg_scan.specs.declared.command.Task.TheVariants as task
 use Rattle.mdg_scan.specs.declared.reply.Reply.{Reply}
 use Rattle.mdg_scan.specs.declared.status.Status.{Status}
 use Rattle.mdg_scan.specs.declared.status.Status.TheVariants.{ReadFault}
-use Rattle.mdg_scan.specs.Answer.{IsAnswer, IsAnswerWhere, IsFileAnswer, is_scan, index, index_limit, usage_reply}
+use Rattle.mdg_scan.specs.Answer.{IsAnswer, IsAnswerWhere, IsFileAnswer, task_by, index, index_limit, refused, usage_reply}
 use Rattle.mdg_scan.specs.Scan.{IsAnswered, IsSomeAnswer, IsSomeAnswered, IsToldAnswer, IsWhole, IsWritten, TellsLastRead, fault_answer}
 
 -- what was put at a path is there
@@ -34,32 +36,29 @@ some_held path limit TooLong within =
 some_held path limit (Bytes bytes) within =
     (held_with held_nothing path bytes, ap (λ o. fetched_of o limit) (held_at-held_with held_nothing path bytes) ∙ ap (λ b. cond b (Bytes bytes) TooLong) (le-leb (length bytes) limit within))
 
-answer_by : (words : List (List ℕ)) (held : Held) (reply : Reply) (b : Bool) → is_scan words ≡ b → IsAnswerWhere b held reply → IsAnswer words held reply
-answer_by words held reply b is answers = let P : Bool → Type 0 = λ x. IsAnswerWhere x held reply in subst P (sym is) answers
+answer_by : (words : List (List ℕ)) (held : Held) (reply : Reply) (asked : Task) → task_by words ≡ asked → IsAnswerWhere asked held reply → IsAnswer words held reply
+answer_by words held reply asked is answers = let P : Task → Type 0 = λ x. IsAnswerWhere x held reply in subst P (sym is) answers
 
 -- words out of form need nothing held
-pub IsAnswer-usage : (words : List (List ℕ)) (held : Held) (reply : Reply) → is_scan words ≡ false → reply ≡ usage_reply → IsAnswer words held reply
-IsAnswer-usage words held reply other is = answer_by words held reply false other is
+pub IsSomeAnswer-usage : (words : List (List ℕ)) (reply : Reply) → task_by words ≡ task.Usage → reply ≡ usage_reply → IsSomeAnswer words reply
+IsSomeAnswer-usage words reply asked is = (held_nothing, answer_by words held_nothing reply task.Usage asked is)
 
-pub IsSomeAnswer-usage : (words : List (List ℕ)) (reply : Reply) → is_scan words ≡ false → reply ≡ usage_reply → IsSomeAnswer words reply
-IsSomeAnswer-usage words reply other is = (held_nothing, IsAnswer-usage words held_nothing reply other is)
-
-pub IsToldAnswer-usage : (words : List (List ℕ)) (told : Option Held) (reply : Reply) → is_scan words ≡ false → reply ≡ usage_reply → IsToldAnswer words told reply
-IsToldAnswer-usage words None reply other is = tt
-IsToldAnswer-usage words (Some held) reply other is = IsAnswer-usage words held reply other is
+-- nor does what is not built
+pub IsSomeAnswer-not_built : (words : List (List ℕ)) (reply : Reply) → task_by words ≡ task.NotBuilt → reply ≡ refused (codes "NotBuilt") → IsSomeAnswer words reply
+IsSomeAnswer-not_built words reply asked is = (held_nothing, answer_by words held_nothing reply task.NotBuilt asked is)
 
 file_by : (held : Held) (reply : Reply) (f : Fetched) → fetched held index index_limit ≡ f → IsFileAnswer f reply → IsFileAnswer (fetched held index index_limit) reply
 file_by held reply f is answers = let P : Fetched → Type 0 = λ x. IsFileAnswer x reply in subst P (sym is) answers
 
 -- what is answered for a file is answered for a folder that holds it
-pub IsSomeAnswer-file : (words : List (List ℕ)) (reply : Reply) (f : Fetched) → is_scan words ≡ true → IsWithin 4096 f → IsFileAnswer f reply → IsSomeAnswer words reply
-IsSomeAnswer-file words reply f in_form within answers =
+pub IsSomeAnswer-file : (words : List (List ℕ)) (reply : Reply) (f : Fetched) → task_by words ≡ task.Scan → IsWithin 4096 f → IsFileAnswer f reply → IsSomeAnswer words reply
+IsSomeAnswer-file words reply f asked within answers =
     let some = some_held index 4096 f within in
-    (some.0, answer_by words some.0 reply true in_form (file_by some.0 reply f some.1 answers))
+    (some.0, answer_by words some.0 reply task.Scan asked (file_by some.0 reply f some.1 answers))
 
-pub IsToldAnswer-file : (words : List (List ℕ)) (told : Option Held) (reply : Reply) (f : Fetched) → is_scan words ≡ true → IfSome told (λ held. f ≡ fetched held index 4096) → IsFileAnswer f reply → IsToldAnswer words told reply
-IsToldAnswer-file words None reply f in_form given answers = tt
-IsToldAnswer-file words (Some held) reply f in_form given answers = answer_by words held reply true in_form (file_by held reply f (sym given) answers)
+pub IsToldAnswer-file : (words : List (List ℕ)) (told : Option Held) (reply : Reply) (f : Fetched) → task_by words ≡ task.Scan → IfSome told (λ held. f ≡ fetched held index 4096) → IsFileAnswer f reply → IsToldAnswer words told reply
+IsToldAnswer-file words None reply f asked given answers = tt
+IsToldAnswer-file words (Some held) reply f asked given answers = answer_by words held reply task.Scan asked (file_by held reply f (sym given) answers)
 
 -- ---- what is written
 

@@ -1,9 +1,6 @@
 -- What the program answers: a status and a text, by its words and by what the folder holds.
-use Rattle.std.specs.Prelude.{◌≡◌, ℕ, Bool, true, false, if◌then◌else◌, List, [], ◌∷◌, ◌++◌, codes, map, nat_eq, String}
-use Rattle.std.specs.Cmp.Lexicographic.{pointwise}
+use Rattle.std.specs.Prelude.{◌≡◌, ℕ, if◌then◌else◌, ◌||◌, List, [], ◌∷◌, ◌++◌, codes, Option, Some, None}
 use Rattle.std.specs.Fmt.{decimal}
-use Rattle.std.specs.String.{string_bytes}
-use Rattle.std.specs.declared.alloc.Global.{Global}
 use Rattle.mdg_port.specs.Held.{Held}
 use Rattle.mdg_port.specs.Reads.{fetched}
 use Rattle.mdg_port.specs.declared.folder.Fetched.{Fetched}
@@ -13,23 +10,26 @@ use Rattle.mdg_scan.specs.Form.{Reading, not_strict, no_tree, in_form, read_of}
 use Rattle.mdg_scan.specs.Graph.{InGraph}
 use Rattle.mdg_scan.specs.Lowered.{lowered}
 use Rattle.mdg_scan.specs.Report.{line, report}
+use Rattle.mdg_scan.specs.declared.command.Task.{Task}
+use Rattle.mdg_scan.specs.declared.command.Task.TheVariants as task
 use Rattle.mdg_scan.specs.declared.first.code.Code.{Code}
 use Rattle.mdg_scan.specs.declared.first.flow.Flow.{Flow}
 use Rattle.mdg_scan.specs.declared.reply.Reply.{Reply}
 use Rattle.mdg_scan.specs.declared.status.Status.TheVariants.{Refused, Usage, ReadFault}
+use Rattle.mdg_scan.specs.declared.words.Command.{Command}
+use Rattle.mdg_scan.specs.declared.words.Command.TheVariants.{Scan, Replay, Sample}
+use Rattle.mdg_scan.specs.Words.{command_of, is_there}
 
--- the words as texts
-abbrev pub texts_of : List (String Global) → List (List ℕ)
-texts_of words = map string_bytes words
+-- what the command asks for, of what there is
+abbrev pub task_of : Option Command → Task
+task_of None = task.Usage
+task_of (Some (Scan workers json profile)) = if json || is_there profile then task.NotBuilt else task.Scan
+task_of (Some (Replay file)) = task.NotBuilt
+task_of (Some (Sample n workers)) = task.NotBuilt
 
-abbrev pub same_text : List ℕ → List ℕ → Bool
-same_text a b = pointwise nat_eq a b
-
--- the one word `scan`
-abbrev pub is_scan : List (List ℕ) → Bool
-is_scan [] = false
-is_scan (word ∷ []) = same_text word (codes "scan")
-is_scan (word ∷ next ∷ words) = false
+-- what the words ask for, of what there is
+unfoldable pub task_by : List (List ℕ) → Task
+task_by words = task_of (command_of words)
 
 -- the one file that is read
 abbrev pub index : List ℕ
@@ -70,15 +70,21 @@ IsFileAnswer Absent reply = reply ≡ refused (codes "NoFile index.js")
 IsFileAnswer TooLong reply = reply ≡ refused (codes "TooLong index.js")
 IsFileAnswer (Bytes bytes) reply = IsReadingAnswer (read_of bytes) reply
 
--- what is answered where the words are in form, and where they aren't
-abbrev pub IsAnswerWhere : Bool → Held → Reply → Type 0
-IsAnswerWhere true held reply = IsFileAnswer (fetched held index index_limit) reply
-IsAnswerWhere false held reply = reply ≡ usage_reply
+-- what is answered for each task
+abbrev pub IsAnswerWhere : Task → Held → Reply → Type 0
+IsAnswerWhere task.Scan held reply = IsFileAnswer (fetched held index index_limit) reply
+IsAnswerWhere task.NotBuilt held reply = reply ≡ refused (codes "NotBuilt")
+IsAnswerWhere task.Usage held reply = reply ≡ usage_reply
 
 -- the answer for these words and a folder that holds this; there is never another one
 abbrev pub IsAnswer : List (List ℕ) → Held → Reply → Type 0
-IsAnswer words held reply = IsAnswerWhere (is_scan words) held reply
+IsAnswer words held reply = IsAnswerWhere (task_by words) held reply
+
+abbrev pub asked_for : Task → List (List ℕ)
+asked_for task.Scan = index ∷ []
+asked_for task.NotBuilt = []
+asked_for task.Usage = []
 
 -- the paths that are read
 abbrev pub asks : List (List ℕ) → Held → List (List ℕ)
-asks words held = if is_scan words then index ∷ [] else []
+asks words held = asked_for (task_by words)

@@ -1,14 +1,17 @@
-ghost use Rattle.std.specs.Prelude.{◌≡◌, ◌≢◌, ◌⊎◌, ◌≤◌, ◌<◌, ◌-◌, ◌^◌, ℕ, List, false, IfOk, IfSome};
+ghost use Rattle.std.specs.Prelude.{◌≡◌, ◌≢◌, ◌⊎◌, ◌≤◌, ◌<◌, ◌-◌, ◌^◌, ℕ, List, Some, IfOk, IfSome};
 ghost use Rattle.std.specs.Io.KnownBytes.{Appends, Keeps};
 ghost use Rattle.mdg_port.specs.Bytes.{AppendsProperFront};
 ghost use Rattle.mdg_port.specs.Causes.{Rose, Stood};
 ghost use Rattle.mdg_port.specs.Held.{Held};
 ghost use Rattle.mdg_port.specs.Reads.{IsWithin};
-ghost use Rattle.mdg_scan.specs.Answer.{IsAnswer, IsFileAnswer, asks, index, is_scan, read_fault, texts_of, usage_reply};
+ghost use Rattle.mdg_scan.specs.Answer as answer;
+ghost use Rattle.mdg_scan.specs.Answer.{IsAnswer, IsFileAnswer, asks, index, read_fault, usage_reply};
+ghost use Rattle.mdg_scan.specs.Words.{texts_of};
 ghost use Rattle.mdg_scan.specs.Scan.{IsAnswerBegun, IsAnswered, IsSomeAnswer, IsSomeAnswered, IsSomeFaultWritten, IsSomeReadFault, IsToldAnswer, IsWhole, IsWritten, ReadAll, TellsLastRead, fault_answer};
 ghost use Rattle.mdg_scan.specs.declared.reply.Reply.{Reply};
 
 use crate::first::{answer_of_file, refused};
+use crate::words::{Command, WordsRefusal, read_words};
 use crate::{Reply, Status};
 use mdg_base::{NoMemory, Text};
 use mdg_port::{Fetched, Folder, FolderFault, Gate, Sink, SinkFailed, write_whole};
@@ -22,9 +25,9 @@ const INDEX_LIMIT: u64 = 4096;
 
 /// Does what the words ask: reads the folder, and writes the whole answer to the sink.
 ///
-/// The words leave out the program's name. Until there are more commands the one word `scan` is in form: the file
-/// `index.js` of the folder is read, with at most 4,096 bytes. Nothing is written before the whole answer is made.
-/// Neither `rt` nor `gate` is used yet.
+/// The words leave out the program's name. The file `index.js` of the folder is read, with at most 4,096 bytes. Nothing
+/// is written before the whole answer is made. `--workers` changes nothing yet; the other options and commands are
+/// refused before any read. Neither `rt` nor `gate` is used yet.
 pub fn scan<R: Threads + Sync, F: Folder, S: Sink, G: Gate>(
     _rt: &R,
     alloc: Global,
@@ -64,9 +67,14 @@ pub fn scan<R: Threads + Sync, F: Folder, S: Sink, G: Gate>(
     ensures memory { result ≡ Status.NoMemory → Keeps (S.written out.old) (S.written out.new) }
 
     // A wrong use is told only where the words are out of form, and there always but for a failed write.
-    ensures usage { result ≡ Status.Usage → is_scan (texts_of words.now) ≡ false }
-    ensures usage_told { is_scan (texts_of words.now) ≡ false → Stood (S.faults out.old) (S.faults out.new) → result ≢ Status.NoMemory
+    ensures usage { result ≡ Status.Usage → answer.task_by (texts_of words.now) ≡ Task.Usage }
+    ensures usage_told { answer.task_by (texts_of words.now) ≡ Task.Usage → Stood (S.faults out.old) (S.faults out.new) → result ≢ Status.NoMemory
         → result ≡ Status.Usage }
+
+    // What is not built is refused, and nothing is read for it or for words out of form.
+    ensures not_built { answer.task_by (texts_of words.now) ≡ Task.NotBuilt → Stood (S.faults out.old) (S.faults out.new) → result ≢ Status.NoMemory
+        → result ≡ Status.Refused }
+    ensures unread { answer.task_by (texts_of words.now) ≢ Task.Scan → folder.new ≡ folder.old }
 {
     let Ok(reply) = reply_to(alloc, words, folder) else {
         return Status::NoMemory;
@@ -82,12 +90,38 @@ pub fn law_one_answer()
     ensures { (words : List (List ℕ)) (held : Held) (one other : Reply) → IsAnswer words held one → IsAnswer words held other → one ≡ other }
 {}
 
-fn is_scan_alone(words: &[String]) -> bool
-    ensures { result ≡ is_scan (texts_of words.now) }
+/// What the words ask for, of what there is.
+#[derive(Clone, Copy, Debug, PartialEq, Eq)]
+pub enum Task {
+    Scan,
+    NotBuilt,
+    Usage,
+}
+
+fn task_of(command: &Command) -> Task
+    ensures { result ≡ answer.task_of (Some command.now) }
 {
-    match words {
-        [word] => word.as_str() == "scan",
-        _ => false,
+    match command {
+        Command::Scan { json, profile, .. } => {
+            if *json || profile.is_some() {
+                Task::NotBuilt
+            } else {
+                Task::Scan
+            }
+        }
+        Command::Replay { .. } => Task::NotBuilt,
+        Command::Sample { .. } => Task::NotBuilt,
+    }
+}
+
+#[tactic(auto, unfolding(crate::specs::Answer::task_by))]
+fn task_by(alloc: Global, words: &[String]) -> Result<Task, NoMemory>
+    ensures { IfOk result (λ task. task ≡ answer.task_by (texts_of words.now)) }
+{
+    match read_words(alloc, words) {
+        Ok(command) => Ok(task_of(&command)),
+        Err(WordsRefusal::Usage) => Ok(Task::Usage),
+        Err(WordsRefusal::NoMemory) => Err(NoMemory),
     }
 }
 
@@ -114,8 +148,11 @@ fn reply_to<F: Folder>(alloc: Global, words: &[String], folder: &mut F) -> Resul
     ensures all_read { IfOk result (λ reply. reply.status ≢ Status.ReadFault
         → ReadAll (texts_of words.now) (F.held folder.old) (F.reads folder.old) (F.reads folder.new)) }
 
-    ensures usage { is_scan (texts_of words.now) ≡ false → IfOk result (λ reply. reply ≡ usage_reply) }
-    ensures usage_only { IfOk result (λ reply. reply.status ≡ Status.Usage → is_scan (texts_of words.now) ≡ false) }
+    ensures usage { answer.task_by (texts_of words.now) ≡ Task.Usage → IfOk result (λ reply. reply ≡ usage_reply) }
+    ensures usage_only { IfOk result (λ reply. reply.status ≡ Status.Usage → answer.task_by (texts_of words.now) ≡ Task.Usage) }
+
+    ensures not_built { answer.task_by (texts_of words.now) ≡ Task.NotBuilt → IfOk result (λ reply. reply.status ≡ Status.Refused) }
+    ensures unread { answer.task_by (texts_of words.now) ≢ Task.Scan → folder.new ≡ folder.old }
 
     ensures fault { IfOk result (λ reply. reply.status ≡ Status.ReadFault
         → Rose (F.faults folder.old) (F.faults folder.new)) }
@@ -127,8 +164,10 @@ fn reply_to<F: Folder>(alloc: Global, words: &[String], folder: &mut F) -> Resul
     ensures not_write { IfOk result (λ reply. reply.status ≢ Status.WriteFault) }
     ensures not_memory { IfOk result (λ reply. reply.status ≢ Status.NoMemory) }
 {
-    if !is_scan_alone(words) {
-        return reply_by_usage(alloc);
+    match task_by(alloc, words)? {
+        Task::Usage => return reply_by_usage(alloc),
+        Task::NotBuilt => return refused(alloc, "NotBuilt"),
+        Task::Scan => {}
     }
     match folder.read(alloc, INDEX, INDEX_LIMIT) {
         Ok(fetched) => answer_of_fetched(alloc, fetched),

@@ -81,3 +81,29 @@ fn other_words_and_a_full_sink(rt: HostRuntime) -> Result<(), Fail> {
     assert_eq!(rt; text.as_slice(), b"refused No".as_slice());
     Ok(())
 }
+
+#[test]
+fn workers_change_nothing_and_the_rest_is_not_built(rt: HostRuntime) -> Result<(), Fail> {
+    let rows = [
+        ("scan --workers 2", Status::Clean, "findings 0\n"),
+        ("scan --json", Status::Refused, "refused NotBuilt\n"),
+        (
+            "scan --profile p.json",
+            Status::Refused,
+            "refused NotBuilt\n",
+        ),
+        ("replay s.json", Status::Refused, "refused NotBuilt\n"),
+        ("sample 1", Status::Refused, "refused NotBuilt\n"),
+    ];
+    for (line, status, text) in rows {
+        let mut words = Vec::new(rt.alloc());
+        for word in line.split(' ') {
+            words.push(String::from_str(rt.alloc(), word)?)?;
+        }
+        let file = Some("'use strict';");
+        let found = answered(&rt, rt.alloc(), words.as_slice(), file, 200)?;
+        assert_eq!(rt; found.0, status);
+        assert_eq!(rt; found.1.as_slice(), text.as_bytes());
+    }
+    Ok(())
+}

@@ -1,4 +1,4 @@
-use Rattle.mdg_scan.specs.Answer.{texts_of}
+use Rattle.mdg_scan.specs.Words.{texts_of}
 use Rattle.mdg_scan.proofs.HeldAnswers.{IsWhole-no_fault, IsSomeAnswered-by, fault-written}
 use Rattle.mdg_scan.proofs.command.scan.Goals as goal
 
