@@ -4,6 +4,7 @@ use Rattle.std.specs.Prelude.{map, Some, None, Err, slice_get, slice_index_or}
 use Rattle.std.proofs.lemmas.Option.{slice_get-get_or, slice_get_past}
 use native.Mathlib.Decide.{dec_lt}
 use Rattle.mdg_text.specs.declared.token.Token.{Token}
+use Rattle.mdg_tree.specs.declared.tree.At.{At}
 use Rattle.mdg_tree.specs.declared.tree.FileTree.{FileTree}
 use Rattle.mdg_tree.specs.declared.tree.Stmt.{Stmt}
 use Rattle.mdg_tree.specs.Height.{stmt_height, file_height, highest}
@@ -33,10 +34,10 @@ module _ (ts : Tokens) where
       let same = one_stmt ts true _ _ _ _ _ d d' in
       ap₂ (λ x xs. x ∷ xs) same.0 (one_body b (subst (λ m. Body ts true more m k) (sym same.1) b') e f)
 
-  pub one_file : (start : ℕ) (items : List Stmt) → Begins ts start → Body ts true items start (length ts) → (tree : FileTree) → IsFile ts tree → record { items = items } ≡ tree
+  pub one_file : (start : ℕ) (items : List Stmt) → Begins ts start → Body ts true items start (length ts) → (tree : FileTree) → IsFile ts tree → record { at = place_at ts 0; items = items } ≡ tree
   one_file start items g b tree x =
       let same : start ≡ x.start = one_start g x.begins in
-      ap (λ z. record { items = z }) (one_body b (subst (λ m. Body ts true tree.items m (length ts)) (sym same) x.spelled) refl refl)
+      ap (λ z. record { at = z; items = items }) (sym x.first) ∙ ap (λ z. record { at = tree.at; items = z }) (one_body b (subst (λ m. Body ts true tree.items m (length ts)) (sym same) x.spelled) refl refl)
 
   due_stops : {a b : List Stmt} {k i : ℕ} → Body ts true a k i → i < length ts → ((t : Stmt) (j : ℕ) → Says ts true t i j → stmt_height t ≤ limit → ⊥)
       → Body ts true b k (length ts) → highest (map stmt_height b) ≤ limit → ⊥
@@ -90,9 +91,9 @@ module _ (ts : Tokens) where
   unfolding text_at
   text_read i d inside = ap text_of (sym (slice_get-get_or ts i d inside))
 
-  pub file_low : (items : List Stmt) → highest (map stmt_height items) ≤ limit → file_height (record { items = items }) ≤ 256
+  pub file_low : (at : At) (items : List Stmt) → highest (map stmt_height items) ≤ limit → file_height (record { at = at; items = items }) ≤ 256
   unfolding file_height
-  file_low items h = omega arith
+  file_low at items h = omega arith
 
   pub begins_inside : {j : ℕ} → Begins ts j → j ≤ length ts
   begins_inside (directive d c) = (close_moves ts c (first_there d)).to

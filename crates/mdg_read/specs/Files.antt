@@ -11,7 +11,7 @@ use Rattle.mdg_read.specs.declared.sign.Sign.TheVariants as s
 use Rattle.mdg_read.specs.declared.form.Ending.TheVariants as ending
 use Rattle.mdg_read.specs.declared.refusal.ReadRefusal.{ReadRefusal}
 use Rattle.mdg_read.specs.declared.refusal.ReadRefusal.TheVariants.{NotStrict, NotCore, NoTree, NoMemory}
-use Rattle.mdg_read.specs.Tokens.{Tokens, sign_at, text_at, offset_at, same}
+use Rattle.mdg_read.specs.Tokens.{Tokens, sign_at, text_at, offset_at, place_at, same}
 use Rattle.mdg_read.specs.Grammar.{Says, Body, Closes}
 
 -- The directive is a string literal of 12 bytes with its quotes, so it has no escapes.
@@ -82,6 +82,7 @@ limit = 255
 pub record IsFile (ts : Tokens) (tree : FileTree) : Type 0 where
   pub start : ℕ
   pub begins : Begins ts start
+  pub first : tree.at ≡ place_at ts 0
   pub spelled : Body ts true tree.items start (length ts)
   pub low : file_height tree ≤ 256
 
@@ -131,3 +132,10 @@ ItemsCause ts start (Err NoMemory) = Unit {0}
 ItemsCause ts start (Err NotStrict) = ⊥
 ItemsCause ts start (Err (NotCore word o)) = ⊥
 ItemsCause ts start (Err (NoTree o)) = (i : ℕ) × IsDue ts i × (o ≡ offset_at ts i)
+
+-- the refusal of the word at a place
+abbrev pub LeavesOut : Tokens → ℕ → ReadRefusal → Type 0
+LeavesOut ts i (NotCore word o) = (word ≡ text_at ts i) × (o ≡ offset_at ts i)
+LeavesOut ts i NoMemory = Unit {0}
+LeavesOut ts i NotStrict = ⊥
+LeavesOut ts i (NoTree o) = ⊥

@@ -1,10 +1,11 @@
-//! A look at the sign of a token.
+//! A look at a token.
 
 ghost use Rattle.std.specs.Prelude.{◌≡◌, ◌≢◌, ◌<◌, length, map};
 ghost use Rattle.mdg_read.specs.Tokens as seen;
 
 use crate::sign::Sign;
 use mdg_text::Token;
+use mdg_tree::At;
 
 /// The sign of the token at a place, from the list of all signs.
 #[tactic(auto, using(crate::proofs::Looks::looks))]
@@ -18,5 +19,19 @@ pub fn sign_at(tokens: &[Token], signs: &[Sign], at: usize) -> Sign
         signs[at]
     } else {
         Sign::End
+    }
+}
+
+/// Where the token at a place stands.
+#[tactic(auto, unfolding(crate::specs::Tokens::place_at))]
+pub fn place_at(tokens: &[Token], at: usize) -> At
+    ensures { result ≡ seen.place_at tokens.now at }
+{
+    match tokens.get(at) {
+        Some(token) => At {
+            line: token.line,
+            offset: token.from,
+        },
+        None => At { line: 0, offset: 0 },
     }
 }

@@ -15,7 +15,7 @@ pub fn copy(alloc: Global, tree: &FileTree) -> Result<FileTree, NoMemory>
     for one in tree.items.as_slice() {
         items.push(copy_stmt(alloc, one)?)?;
     }
-    Ok(FileTree { items })
+    Ok(FileTree { at: tree.at, items })
 }
 
 fn copy_text(alloc: Global, text: &Text) -> Result<Text, NoMemory>

@@ -19,7 +19,7 @@ fn sample(alloc: Global) -> Result<FileTree, NoMemory>
     let place = At { line: 1, offset: 0 };
     let mut items = Items::create(alloc);
     items.push(Stmt::Expression(place, Expr::Paren(place, inner)))?;
-    Ok(FileTree { items })
+    Ok(FileTree { at: place, items })
 }
 
 #[test]

@@ -19,6 +19,8 @@ pub struct At {
 /// A program (14). Its directive `use strict` is no item.
 #[derive(Drop)]
 pub struct FileTree {
+    /// Where the file's first token stands, which is the directive.
+    pub at: At,
     pub items: mdg_base::Items<Stmt>,
 }
 
