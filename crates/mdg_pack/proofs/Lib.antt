@@ -1,0 +1,17 @@
+pub mod Searches
+pub mod Calls
+pub mod Looks
+pub mod Finds
+pub mod Segments
+pub mod Lines
+pub mod LoadLemmas
+pub mod Follows
+pub mod OneText
+pub mod OneBinding
+pub mod OneLoad
+pub mod TurnLemmas
+pub mod WalkLemmas
+pub mod StartLemmas
+pub mod OneWalk
+pub mod PackageLemmas
+pub mod GatherLemmas

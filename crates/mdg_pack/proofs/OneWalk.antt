@@ -1,0 +1,113 @@
+-- A walk has at most one outcome.
+use Rattle.std.proofs.Common.{◌≡◌, ℕ, List, [], ◌∷◌, ◌++◌, length, refl, sym, ◌∙◌, ap, ap₂, subst}
+use Rattle.std.specs.Prelude.{Some, None, slice_get, Result, Ok, Err}
+use Rattle.mdg_pack.specs.Finding.{Given, Step, goes, ends, paths, found, no_search, followed_of}
+use Rattle.mdg_pack.specs.Loading.{LoadsFile}
+use Rattle.mdg_pack.specs.Manifest.{Enters, HasEntry, manifest, entry_of_value}
+use Rattle.mdg_pack.specs.Paths.{Path}
+use Rattle.mdg_pack.specs.Walk.{Outcome, refused, packed, Walks, finished, unread, stopped, further, with_required, Starts, no_entry, entered, WalkBy, no_manifest, manifested, after_manifest}
+use Rattle.mdg_pack.specs.declared.fault.PackFault.{PackFault}
+use Rattle.mdg_pack.specs.declared.search.Found.{Found}
+use Rattle.mdg_pack.specs.declared.search.Search.{Search}
+use Rattle.mdg_port.specs.declared.folder.Fetched.{Fetched}
+use Rattle.mdg_port.specs.declared.folder.Fetched.TheVariants.{Absent, TooLong, Bytes}
+use Rattle.mdg_profile.specs.declared.entry.Profile.{Profile}
+use Rattle.mdg_profile.specs.Format.{IsJson}
+use Rattle.mdg_scope.specs.declared.bound.Bound.{Bound}
+use Rattle.mdg_scope.specs.declared.bound.Require.{Require}
+use Rattle.serde_json.specs.Data.{Data}
+use Rattle.mdg_pack.proofs.OneLoad.{one_load}
+use Rattle.mdg_pack.proofs.WalkLemmas.{next_walks, same_load}
+
+module _ (given : Given) (profile : Profile) where
+  -- no file is left
+  one_finished : (search : Search) (done : List Bound) (outcome : Outcome) → slice_get search.files (length done) ≡ None → Walks given profile search done outcome → outcome ≡ packed (paths search) done
+  one_finished search done outcome none (finished other) = refl
+  one_finished search done outcome none (unread file at loads) = let no = sym none ∙ at in absurd cc
+  one_finished search done outcome none (stopped file bound at loads is) = let no = sym none ∙ at in absurd cc
+  one_finished search done outcome none (further file bound required after at loads is rest) = let no = sym none ∙ at in absurd cc
+
+  module _ (search : Search) (done : List Bound) (file : Found) (at : slice_get search.files (length done) ≡ Some file) where
+    other_load : (other : Found) (r s : Result Bound PackFault) → LoadsFile profile file r → slice_get search.files (length done) ≡ Some other → LoadsFile profile other s → s ≡ r
+    other_load other r s loads there is =
+        let both = sym there ∙ at in
+        let same : other ≡ file = cc in
+        one_load profile file.path file.bytes s r (subst (λ (f : Found). LoadsFile profile f s) same is) loads
+
+    one_unread : (refusal : PackFault) → LoadsFile profile file (Err refusal) → (outcome : Outcome) → Walks given profile search done outcome → outcome ≡ refused (paths search) refusal
+    one_unread refusal loads outcome (finished none) = let no = sym none ∙ at in absurd cc
+    one_unread refusal loads outcome (unread other {refusal = r} there is) =
+        let both = other_load other (Err refusal) (Err r) loads there is in
+        let same : r ≡ refusal = cc in ap (refused (paths search)) same
+    one_unread refusal loads outcome (stopped other b there is ended) = let no = other_load other (Err refusal) (Ok b) loads there is in absurd cc
+    one_unread refusal loads outcome (further other b required after there is went rest) = let no = other_load other (Err refusal) (Ok b) loads there is in absurd cc
+
+    one_stopped : (bound : Bound) (asked : List Path) (refusal : PackFault) → LoadsFile profile file (Ok bound) → followed_of given bound search ≡ ends asked refusal → (outcome : Outcome) → Walks given profile search done outcome → outcome ≡ refused asked refusal
+    one_stopped bound asked refusal loads ended outcome (finished none) = let no = sym none ∙ at in absurd cc
+    one_stopped bound asked refusal loads ended outcome (unread other {refusal = r} there is) = let no = other_load other (Ok bound) (Err r) loads there is in absurd cc
+    one_stopped bound asked refusal loads ended outcome (stopped other b {asked = asked'} {refusal = r} there is ended') =
+        let both = other_load other (Ok bound) (Ok b) loads there is in
+        let same : b ≡ bound = cc in
+        let steps = sym ended' ∙ ap (λ x. followed_of given x search) same ∙ ended in
+        let paths_same : asked' ≡ asked = cc in
+        let refusal_same : r ≡ refusal = cc in
+        ap₂ refused paths_same refusal_same
+    one_stopped bound asked refusal loads ended outcome (further other b required after there is went rest) =
+        let both = other_load other (Ok bound) (Ok b) loads there is in
+        let same : b ≡ bound = cc in
+        let no = sym went ∙ ap (λ x. followed_of given x search) same ∙ ended in absurd cc
+
+  one_walks : (search : Search) (done : List Bound) (one other : Outcome) → Walks given profile search done one → Walks given profile search done other → other ≡ one
+  one_walks search done one other (finished none) walks = one_finished search done other none walks
+  one_walks search done one other (unread file {refusal = r} at loads) walks = one_unread search done file at r loads other walks
+  one_walks search done one other (stopped file bound {asked = asked} {refusal = r} at loads is) walks = one_stopped search done file at bound asked r loads is other walks
+  one_walks search done one other (further file bound required after at loads is rest) walks =
+      one_walks after (done ++ with_required bound required ∷ []) one other rest (next_walks given profile search done file at bound loads required after is other walks)
+
+  one_starts : (entry : List Path) (one other : Outcome) → Starts given profile entry one → Starts given profile entry other → other ≡ one
+  one_starts entry one other (no_entry {asked = a} {refusal = r} is) (no_entry {asked = b} {refusal = s} other_is) =
+      let both = sym other_is ∙ is in
+      let paths_same : b ≡ a = cc in
+      let refusal_same : s ≡ r = cc in
+      ap₂ refused paths_same refusal_same
+  one_starts entry one other (no_entry is) (entered n s other_is walks) = let no = sym is ∙ other_is in absurd cc
+  one_starts entry one other (entered n s is walks) (no_entry other_is) = let no = sym is ∙ other_is in absurd cc
+  one_starts entry one other (entered n s is walks) (entered m t other_is other_walks) =
+      let both = sym other_is ∙ is in
+      let same : t ≡ s = cc in
+      one_walks s [] one other walks (subst (λ x. Walks given profile x [] other) same other_walks)
+
+one_value : (bytes : List ℕ) (v w : Data) → IsJson bytes v → IsJson bytes w → v ≡ w
+one_value bytes v w p q = let both = sym p.read_as ∙ q.read_as in cc
+
+one_entry : (bytes : List ℕ) (a b : List Path) → HasEntry bytes a → HasEntry bytes b → a ≡ b
+one_entry bytes a b p q =
+    let both = sym p.says ∙ ap entry_of_value (one_value bytes p.value q.value p.json q.json) ∙ q.says in cc
+
+pub one_enters : (read : Fetched) (a b : Result (List Path) PackFault) → Enters read a → Enters read b → a ≡ b
+one_enters Absent (Ok a) (Ok b) p q = ap Ok (p ∙ sym q)
+one_enters Absent (Ok a) (Err s) p q = absurd q
+one_enters Absent (Err r) b p q = absurd p
+one_enters TooLong (Ok a) b p q = absurd p
+one_enters TooLong (Err r) (Ok b) p q = absurd q
+one_enters TooLong (Err r) (Err s) p q = ap Err (p ∙ sym q)
+one_enters (Bytes bytes) (Ok a) (Ok b) p q = ap Ok (one_entry bytes a b p q)
+one_enters (Bytes bytes) (Ok a) (Err s) p q = absurd (q.1 a p)
+one_enters (Bytes bytes) (Err r) (Ok b) p q = absurd (p.1 b q)
+one_enters (Bytes bytes) (Err r) (Err s) p q = ap Err (p.0 ∙ sym q.0)
+
+pub only_starts : (read : Fetched) (given : Given) (profile : Profile) (entry : List Path) → Enters read (Ok entry) → (outcome : Outcome) → WalkBy read given profile outcome → (later : Outcome) × Starts given profile entry later × (outcome ≡ after_manifest later)
+only_starts read given profile entry enters outcome (no_manifest {refusal = r} is) = let no = one_enters read (Ok entry) (Err r) enters is in absurd cc
+only_starts read given profile entry enters outcome (manifested other {outcome = later} is starts) =
+    let both = one_enters read (Ok other) (Ok entry) is enters in
+    let same : other ≡ entry = cc in
+    (later, subst (λ e. Starts given profile e later) same starts, refl)
+
+pub one_walk_by : (read : Fetched) (given : Given) (profile : Profile) (one other : Outcome) → WalkBy read given profile one → WalkBy read given profile other → one ≡ other
+one_walk_by read given profile one other (no_manifest {refusal = r} is) (no_manifest {refusal = s} other_is) =
+    let both = one_enters read (Err r) (Err s) is other_is in
+    let same : r ≡ s = cc in ap (refused (manifest ∷ [])) same
+one_walk_by read given profile one other (no_manifest {refusal = r} is) (manifested entry other_is starts) = let no = one_enters read (Err r) (Ok entry) is other_is in absurd cc
+one_walk_by read given profile one other (manifested entry {outcome = later} is starts) walk =
+    let only = only_starts read given profile entry is other walk in
+    ap after_manifest (sym (one_starts given profile entry later only.0 starts only.1)) ∙ sym only.2

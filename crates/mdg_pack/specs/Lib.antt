@@ -1,0 +1,11 @@
+pub mod Paths
+pub mod Manifest
+pub mod Finding
+pub mod Loading
+pub mod Walk
+pub mod Outside
+pub mod Loaded
+pub mod Entry
+pub mod Gathering
+pub mod Answered
+pub mod Packaged

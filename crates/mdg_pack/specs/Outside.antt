@@ -1,0 +1,124 @@
+-- What a call of the walk did, by what the folder tells before and after it.
+use Rattle.std.specs.Prelude.{◌≡◌, ℕ, ◌+◌, ◌-◌, ◌^◌, ◌<◌, ◌≤◌, List, [], ◌∷◌, ◌++◌, length, Option, Some, None, IfSome, slice_get, Result, Ok, Err}
+use Rattle.mdg_pack.specs.Finding.{Given, Step, goes, ends, paths, seen, most_files, with_file}
+use Rattle.mdg_pack.specs.Paths.{Path}
+use Rattle.mdg_pack.specs.Walk.{reads_of, most_bytes}
+use Rattle.mdg_pack.specs.declared.fault.PackFault.{PackFault}
+use Rattle.mdg_pack.specs.declared.fault.PackFault.TheVariants as fault
+use Rattle.mdg_pack.specs.declared.search.Found.{Found}
+use Rattle.mdg_pack.specs.declared.search.Search.{Search}
+use Rattle.mdg_port.specs.Causes.{Rose}
+use Rattle.mdg_port.specs.Held.{Held}
+use Rattle.mdg_port.specs.declared.folder.Fetched.{Fetched}
+use Rattle.mdg_port.specs.declared.folder.Fetched.TheVariants.{Absent, Bytes}
+
+-- what a folder tells
+pub record Outside : Type 0 where
+  pub told : Option Held
+  pub reads : ℕ
+  pub faults : ℕ
+
+abbrev pub outside : Option Held → ℕ → ℕ → Outside
+outside told reads faults = record { told = told; reads = reads; faults = faults }
+
+-- what the file with this number gave
+abbrev pub bytes_of : Option Found → Fetched
+bytes_of None = Absent
+bytes_of (Some file) = Bytes file.bytes
+
+abbrev pub gave : Search → Option ℕ → Fetched
+gave search None = Absent
+gave search (Some number) = bytes_of (slice_get search.files number)
+
+-- these reads give what the search saw
+pub record Agrees (given : Given) (search : Search) : Type 0 where
+  pub at : (path : Path) (file : Option ℕ) → seen search path ≡ Some file → given path ≡ gave search file
+
+-- numbers are those of files, and the limits are kept
+pub record IsSound (search : Search) : Type 0 where
+  pub few : length search.files ≤ most_files
+  pub numbers : (path : Path) (number : ℕ) → seen search path ≡ Some (Some number) → number < length search.files
+  pub short : (number : ℕ) (file : Found) → slice_get search.files number ≡ Some file → length file.bytes ≤ most_bytes
+
+-- the search saw what the folder holds, where that is told
+abbrev pub Saw : Option Held → Search → Type 0
+Saw told search = IfSome told (λ held. Agrees (reads_of held) search)
+
+-- these reads give what the folder holds, where that is told
+abbrev pub GivesTold : Option Held → Given → Type 0
+GivesTold told given = IfSome told (λ held. given ≡ reads_of held)
+
+-- so many paths more were read, where that is told
+abbrev pub IsCounted : Outside → Outside → ℕ → ℕ → Type 0
+IsCounted before after old new = IfSome before.told (λ held. after.reads < 2 ^ 64 - 1 → (before.reads ≤ after.reads) × (after.reads + old ≡ before.reads + new))
+
+abbrev pub IsFront : List Path → List Path → Type 0
+IsFront front whole = (rest : List Path) × (whole ≡ front ++ rest)
+
+-- the paths that a step asked
+abbrev pub asked_of : {A : Type 0} → Step A → List Path
+asked_of (goes value search) = paths search
+asked_of (ends asked refusal) = asked
+
+-- The call did this step: its value, and the search as it is now.
+pub record Did {A : Type 0} (run : Given → Step A) (before after : Outside) (old new : Search) (value : A) : Type 0 where
+  pub sound : IsSound new
+  pub saw : Saw before.told new
+  pub is : (given : Given) → Agrees given new → run given ≡ goes value new
+  pub keeps : (given : Given) → Agrees given new → Agrees given old
+  pub longer : length old.files ≤ length new.files
+  pub counted : IsCounted before after (length old.asked) (length new.asked)
+
+-- The failing path is the last one that is asked, and the step asks all of these first.
+pub record IsLastAsked (path : Path) (asked steps : List Path) : Type 0 where
+  pub earlier : List Path
+  pub last : asked ≡ earlier ++ path ∷ []
+  pub first : IsFront asked steps
+
+-- why the step ended
+abbrev pub Explains : {A : Type 0} → PackFault → Step A → List Path → Type 0
+Explains (fault.FolderFailed path) step asked = IsLastAsked path asked (asked_of step)
+Explains fault.NoMemory step asked = Unit {0}
+Explains refusal step asked = step ≡ ends asked refusal
+
+-- The step was refused after these paths were asked, for what the reads gave.
+pub record Refuses {A : Type 0} (run : Given → Step A) (before after : Outside) (old : Search) (refusal : PackFault) : Type 0 where
+  pub given : Given
+  pub told : GivesTold before.told given
+  pub agrees : Agrees given old
+  pub asked : List Path
+  pub explains : Explains refusal (run given) asked
+  pub counted : IsCounted before after (length old.asked) (length asked)
+
+-- the folder failed only where its count of faults rose
+abbrev pub RoseAt : PackFault → ℕ → ℕ → Type 0
+RoseAt (fault.FolderFailed path) before after = Rose before after
+RoseAt refusal before after = Unit {0}
+
+-- want of memory says nothing
+abbrev pub RefusesUnlessMemory : {A : Type 0} → (Given → Step A) → Outside → Outside → Search → PackFault → Type 0
+RefusesUnlessMemory run before after old fault.NoMemory = Unit {0}
+RefusesUnlessMemory run before after old refusal = RoseAt refusal before.faults after.faults × Refuses run before after old refusal
+
+abbrev pub Answers : {A : Type 0} → (Given → Step A) → Outside → Outside → Search → Search → Result A PackFault → Type 0
+Answers run before after old new (Ok value) = Did run before after old new value
+Answers run before after old new (Err refusal) = RefusesUnlessMemory run before after old refusal
+
+-- the folder holds what it held, and its count of faults didn't fall
+pub record Stays (before after : Outside) : Type 0 where
+  pub held : after.told ≡ before.told
+  pub faults : before.faults ≤ after.faults
+
+-- What is left of a step does what the whole step does from where it began.
+pub record Carries {A : Type 0} (whole : Given → Step A) (before : Outside) (old : Search) (rest : Given → Step A) (now : Outside) (search : Search) : Type 0 where
+  pub stays : Stays before now
+  pub sound : IsSound search
+  pub saw : Saw before.told search
+  pub goes_on : (after : Outside) (new : Search) (result : Result A PackFault) → Stays now after → Answers rest now after search new result → Answers whole before after old new result
+
+-- A new file takes the next number, and there is room for it; or there is none.
+abbrev pub IsNumbered : Search → Search → Path → List ℕ → Result (Option ℕ) PackFault → Type 0
+IsNumbered old new path bytes (Ok None) = ⊥
+IsNumbered old new path bytes (Ok (Some number)) = (length old.files < most_files) × (number ≡ length old.files) × (new ≡ with_file old path bytes)
+IsNumbered old new path bytes (Err fault.NoMemory) = Unit {0}
+IsNumbered old new path bytes (Err refusal) = (most_files ≤ length old.files) × (refusal ≡ fault.TooManyFiles 257)
