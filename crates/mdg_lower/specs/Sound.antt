@@ -1,0 +1,172 @@
+-- Which drafts are in order, as a part of a function and as a whole function.
+use Rattle.std.specs.Prelude.{◌≡◌, ℕ, zero, suc, ◌+◌, ◌-◌, ◌<◌, ◌≤◌, Bool, true, false, List, [], ◌∷◌, All, length, IfSome}
+use Rattle.mdg_code.specs.declared.statement.Statement.{Statement}
+use Rattle.mdg_code.specs.declared.statement.Statement.TheVariants.{Literal, Copy, Op, Object, Function, Own, Shared, Get, GetAt, Set, SetAt, Cell, SetCell, Branch, Call, Land, Return, Load, Throw}
+use Rattle.mdg_code.specs.Kinds.{awaits_land, is_land, is_last}
+use Rattle.mdg_lower.specs.declared.draft.Draft.{Draft}
+use Rattle.mdg_lower.specs.declared.draft.Draft.TheVariants as d
+use Rattle.mdg_lower.specs.declared.draft.DraftLine.{DraftLine}
+use Rattle.mdg_lower.specs.declared.draft.Target.{Target}
+use Rattle.mdg_lower.specs.declared.draft.Target.TheVariants as to
+use Rattle.mdg_lower.specs.declared.scope.Meaning.{Meaning}
+use Rattle.mdg_lower.specs.declared.scope.Meaning.TheVariants as m
+use Rattle.mdg_lower.specs.declared.scope.Scope.{Scope}
+use Rattle.mdg_lower.specs.declared.scope.Wanted.{Wanted}
+use Rattle.mdg_lower.specs.declared.scope.Wanted.TheVariants as w
+use Rattle.mdg_lower.specs.Emitting.{Lines}
+use Rattle.mdg_lower.specs.Naming.{Name, meaning, function_at, wanted_at}
+
+-- how many functions, cells and files a package has
+pub record Counts : Type 0 where
+  pub functions : ℕ
+  pub cells : ℕ
+  pub files : ℕ
+
+-- the numbers of a settled statement are in range, but for its locals, and it names no property, no shared thing and no site
+abbrev pub IsTame : Counts → Statement → Type 0
+IsTame n (Literal into text) = Unit {0}
+IsTame n (Copy into of) = Unit {0}
+IsTame n (Op into of) = Unit {0}
+IsTame n (Object into) = Unit {0}
+IsTame n (Function into function) = function.0 < n.functions
+IsTame n (Own into) = Unit {0}
+IsTame n (Shared into shared) = ⊥
+IsTame n (Get into of name column) = ⊥
+IsTame n (GetAt into of key) = Unit {0}
+IsTame n (Set of name column value) = ⊥
+IsTame n (SetAt of key value) = Unit {0}
+IsTame n (Cell into cell) = cell.0 < n.cells
+IsTame n (SetCell cell value) = cell.0 < n.cells
+IsTame n (Branch left right) = ⊥
+IsTame n (Call into callee receiver arguments) = Unit {0}
+IsTame n Land = Unit {0}
+IsTame n (Return value) = Unit {0}
+IsTame n (Load file) = file.0 < n.files
+IsTame n (Throw value) = Unit {0}
+
+abbrev pub IsTameDraft : Counts → Draft → Type 0
+IsTameDraft n (d.Settled statement) = IsTame n statement
+IsTameDraft n (d.Get into of name) = Unit {0}
+IsTameDraft n (d.Set of name value) = Unit {0}
+IsTameDraft n (d.Shared into home name) = Unit {0}
+IsTameDraft n (d.Branch left right) = Unit {0}
+
+-- the draft runs a function and goes on at a land
+abbrev pub awaits : Draft → Bool
+awaits (d.Settled statement) = awaits_land statement
+awaits (d.Get into of name) = false
+awaits (d.Set of name value) = false
+awaits (d.Shared into home name) = false
+awaits (d.Branch left right) = false
+
+abbrev pub lands : Draft → Bool
+lands (d.Settled statement) = is_land statement
+lands (d.Get into of name) = false
+lands (d.Set of name value) = false
+lands (d.Shared into home name) = false
+lands (d.Branch left right) = false
+
+abbrev pub ends : Draft → Bool
+ends (d.Settled statement) = is_last statement
+ends (d.Get into of name) = false
+ends (d.Set of name value) = false
+ends (d.Shared into home name) = false
+ends (d.Branch left right) = false
+
+-- each draft that awaits a land has one behind it
+abbrev pub AreLanded : List DraftLine → Type 0
+AreLanded [] = Unit {0}
+AreLanded (line ∷ []) = awaits line.draft ≡ false
+AreLanded (line ∷ next ∷ lines) = (awaits line.draft ≡ true → lands next.draft ≡ true) × AreLanded (next ∷ lines)
+
+-- so many lines on, among them or right behind them, no draft that awaits a land stands right before
+abbrev pub IsApartAt : List DraftLine → ℕ → Type 0
+IsApartAt lines zero = Unit {0}
+IsApartAt [] (suc n) = ⊥
+IsApartAt (line ∷ lines) (suc zero) = awaits line.draft ≡ false
+IsApartAt (line ∷ lines) (suc (suc n)) = IsApartAt lines (suc n)
+
+-- a target is a site of the lines that begin at a site, or the one right behind them, and no land of a call; or it still waits for a loop
+abbrev pub AimsInto : List DraftLine → ℕ → Target → Type 0
+AimsInto lines s (to.Site site) = (s ≤ site.0) × IsApartAt lines (site.0 - s)
+AimsInto lines s to.End = Unit {0}
+AimsInto lines s to.Turn = Unit {0}
+
+abbrev pub BranchesInto : List DraftLine → ℕ → Draft → Type 0
+BranchesInto lines s (d.Settled statement) = Unit {0}
+BranchesInto lines s (d.Get into of name) = Unit {0}
+BranchesInto lines s (d.Set of name value) = Unit {0}
+BranchesInto lines s (d.Shared into home name) = Unit {0}
+BranchesInto lines s (d.Branch left right) = AimsInto lines s left × AimsInto lines s right
+
+-- the line is of this function and this file
+abbrev pub IsOf : Scope → DraftLine → Type 0
+IsOf scope line = (line.function ≡ scope.function) × (line.place.file ≡ scope.file)
+
+-- lines from a site on that are a part of a function
+pub record Sound (n : Counts) (scope : Scope) (s : ℕ) (lines : List DraftLine) : Type 0 where
+  pub tame : All (λ line. IsTameDraft n line.draft) lines
+  pub own : All (IsOf scope) lines
+  pub landed : AreLanded lines
+  pub aims : All (λ line. BranchesInto lines s line.draft) lines
+
+unfoldable pub SoundLines : Counts → Scope → Lines → Type 0
+SoundLines n scope code = (s : ℕ) → Sound n scope s (code s)
+
+-- no target waits for a loop
+abbrev pub IsAimedTarget : Target → Type 0
+IsAimedTarget (to.Site site) = Unit {0}
+IsAimedTarget to.End = ⊥
+IsAimedTarget to.Turn = ⊥
+
+abbrev pub IsAimed : Draft → Type 0
+IsAimed (d.Settled statement) = Unit {0}
+IsAimed (d.Get into of name) = Unit {0}
+IsAimed (d.Set of name value) = Unit {0}
+IsAimed (d.Shared into home name) = Unit {0}
+IsAimed (d.Branch left right) = IsAimedTarget left × IsAimedTarget right
+
+-- the last line ends the function
+abbrev pub EndWell : List DraftLine → Type 0
+EndWell [] = ⊥
+EndWell (line ∷ []) = ends line.draft ≡ true
+EndWell (line ∷ next ∷ lines) = EndWell (next ∷ lines)
+
+abbrev pub StaysWithin : ℕ → ℕ → Target → Type 0
+StaysWithin s count (to.Site site) = site.0 < s + count
+StaysWithin s count to.End = Unit {0}
+StaysWithin s count to.Turn = Unit {0}
+
+abbrev pub BranchesWithin : ℕ → ℕ → Draft → Type 0
+BranchesWithin s count (d.Settled statement) = Unit {0}
+BranchesWithin s count (d.Get into of name) = Unit {0}
+BranchesWithin s count (d.Set of name value) = Unit {0}
+BranchesWithin s count (d.Shared into home name) = Unit {0}
+BranchesWithin s count (d.Branch left right) = StaysWithin s count left × StaysWithin s count right
+
+-- the lines of a whole function: each branch also stays within them
+pub record Whole (n : Counts) (scope : Scope) (s : ℕ) (lines : List DraftLine) : Type 0 where
+  pub sound : Sound n scope s lines
+  pub aimed : All (λ line. IsAimed line.draft) lines
+  pub end_well : EndWell lines
+  -- no branch goes right behind the last line
+  pub within : All (λ line. BranchesWithin s (length lines) line.draft) lines
+
+abbrev pub IsMeaningThere : Counts → Meaning → Type 0
+IsMeaningThere n (m.Local local own) = Unit {0}
+IsMeaningThere n (m.Cell cell own) = cell.0 < n.cells
+IsMeaningThere n m.Require = Unit {0}
+IsMeaningThere n m.Literal = Unit {0}
+IsMeaningThere n m.Global = Unit {0}
+IsMeaningThere n m.Nothing = Unit {0}
+
+abbrev pub IsWantedThere : Counts → Wanted → Type 0
+IsWantedThere n (w.Module name) = Unit {0}
+IsWantedThere n (w.File file cell) = (file.0 < n.files) × (cell.0 < n.cells)
+
+-- what names, words and calls of `require` stand for in the scope is in range
+pub record ScopeFits (n : Counts) (scope : Scope) : Type 0 where
+  pub meanings_there : (name : Name) → IsMeaningThere n (meaning scope name)
+  pub functions_there : (offset : ℕ) → (function_at scope offset).0 < n.functions
+  pub wanted_there : (offset : ℕ) → IfSome (wanted_at scope offset) (IsWantedThere n)
+  pub module_there : scope.«module».0 < n.cells

@@ -1,0 +1,125 @@
+//! Drafts become statements: names get their columns, and shared things their numbers.
+
+ghost use Rattle.std.specs.Prelude.{◌≡◌, map, [], IfOk};
+ghost use Rattle.mdg_lower.specs.Columns.{add_names};
+ghost use Rattle.mdg_lower.specs.Settling as settling;
+
+use crate::column::{ColumnTable, column_names};
+use crate::draft::{Draft, DraftLine, Target};
+use crate::sharing::{shared_number, shared_rows};
+use mdg_base::{Items, NoMemory, Site, Text};
+use mdg_code::{Line, SharedRow, Statement};
+use mdg_profile::Profile;
+use std::alloc::Global;
+
+/// The statements that drafts become, and the tables that these refer to.
+#[derive(Debug, Drop)]
+pub struct Settled {
+    pub lines: Items<Line>,
+
+    /// The static property names, by column.
+    pub columns: Items<Text>,
+
+    /// The shared things, by number.
+    pub shared: Items<SharedRow>,
+}
+
+fn site_of(target: Target) -> Site
+    ensures { result ≡ settling.site_of target }
+{
+    match target {
+        Target::Site(site) => site,
+        Target::End | Target::Turn => Site(0),
+    }
+}
+
+fn statement_with<'a>(
+    columns: &ColumnTable<'a>,
+    shared: &[SharedRow],
+    draft: Draft,
+) -> Result<Statement, NoMemory>
+    ensures { IfOk result (λ s. s ≡ settling.statement_with columns.now shared.now draft) }
+{
+    match draft {
+        Draft::Settled(statement) => Ok(statement),
+        Draft::Get { into, of, name } => {
+            let column = columns.column(name.as_str())?;
+            Ok(Statement::Get {
+                into,
+                of,
+                name,
+                column,
+            })
+        }
+        Draft::Set { of, name, value } => {
+            let column = columns.column(name.as_str())?;
+            Ok(Statement::Set {
+                of,
+                name,
+                column,
+                value,
+            })
+        }
+        Draft::Shared { into, home, name } => {
+            let shared = shared_number(shared, home, name.as_str())?;
+            Ok(Statement::Shared { into, shared })
+        }
+        Draft::Branch { left, right } => Ok(Statement::Branch {
+            left: site_of(left),
+            right: site_of(right),
+        }),
+    }
+}
+
+fn line_with<'a>(
+    columns: &ColumnTable<'a>,
+    shared: &[SharedRow],
+    line: DraftLine,
+) -> Result<Line, NoMemory>
+    ensures { IfOk result (λ l. l ≡ settling.line_with columns.now shared.now line) }
+{
+    let DraftLine {
+        draft,
+        place,
+        function,
+    } = line;
+    Ok(Line {
+        statement: statement_with(columns, shared, draft)?,
+        place,
+        function,
+    })
+}
+
+fn lines_with(
+    alloc: Global,
+    columns: &[Text],
+    shared: &[SharedRow],
+    drafts: Vec<DraftLine>,
+) -> Result<Items<Line>, NoMemory>
+    ensures { IfOk result (λ ls. ls ≡ map (settling.line_with (add_names [] columns.now) shared.now) drafts.items) }
+{
+    let table = ColumnTable::of(alloc, columns)?;
+    let mut lines = Items::create(alloc);
+    for line in drafts {
+        lines.push(line_with(&table, shared, line)?)?;
+    }
+    Ok(lines)
+}
+
+/// The statements that the drafts become under a profile. Each property name that is no plain numeral
+/// above 15 has a column, by its first draft; each global and each module that a draft names is a shared
+/// thing, by its first draft, and so are the members that the profile lists of it. A branch that was
+/// never aimed goes to site 0.
+#[tactic(auto, using(crate::proofs::ColumnLemmas::columns_again), unfolding(crate::specs::Settling::settled))]
+pub fn settle(alloc: Global, drafts: Vec<DraftLine>, profile: &Profile) -> Result<Settled, NoMemory>
+    ensures { IfOk result (λ s. s ≡ settling.settled profile.now.entries drafts.items) }
+{
+    let columns = column_names(alloc, drafts.as_slice())?;
+    let shared = shared_rows(alloc, profile.entries.as_slice(), drafts.as_slice())?;
+    let lines = lines_with(alloc, columns.as_slice(), shared.as_slice(), drafts)?;
+    Ok(Settled {
+        lines,
+        columns,
+        shared,
+    })
+}
