@@ -74,7 +74,7 @@ fn measure(rt: &(impl Print + Clock), alloc: Global, name: &str, head: &[u8], pa
 fn main(rt: HostRuntime) -> Result<()> {
     let alloc = rt.alloc();
     measure(&rt, alloc, "code", b"", b"var total = first + items[12].length; // sum\nif (total === 'x\\n') { exports.put(total, 1) }\n", 1_000_000)?;
-    measure(&rt, alloc, "functions", b"", b"function f(a,b){return a+b}", 1_000_000)?;
+    measure(&rt, alloc, "functions", b"", b"function f(a,b){return a+b}", 770_000)?;
     measure(&rt, alloc, "calls", b"", b"a(b,c);", 400_000)?;
     measure(&rt, alloc, "semicolons", b"", b";", 400_000)?;
     measure(&rt, alloc, "names", b"", b"a;", 400_000)?;
