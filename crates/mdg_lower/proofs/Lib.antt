@@ -13,6 +13,8 @@ pub mod ParameterLoop
 pub mod LoopLemmas
 pub mod ColumnLemmas
 pub mod SharingLemmas
+pub mod SeenLemmas
+pub mod TableSteps
 pub mod WalkEquations
 pub mod WalkLemmas
 pub mod Filings

@@ -1,6 +1,8 @@
 pub mod Offsets
 pub mod Columns
 pub mod Sharing
+pub mod Seeing
+pub mod Tabling
 pub mod Settling
 pub mod Walking
 pub mod Naming

@@ -1,12 +1,15 @@
 //! Drafts become statements: names get their columns, and shared things their numbers.
 
-ghost use Rattle.std.specs.Prelude.{◌≡◌, map, [], IfOk};
+ghost use Rattle.std.specs.Prelude.{◌≡◌, List, map, [], IfOk};
+ghost use Rattle.mdg_code.specs.declared.code.SharedRow.{SharedRow};
 ghost use Rattle.mdg_lower.specs.Columns.{add_names};
 ghost use Rattle.mdg_lower.specs.Settling as settling;
+ghost use Rattle.mdg_lower.specs.Tabling.{IsTableOf};
 
 use crate::column::{ColumnTable, column_names};
 use crate::draft::{Draft, DraftLine, Target};
-use crate::sharing::{shared_number, shared_rows};
+use crate::shared_table::SharedTable;
+use crate::sharing::shared_rows;
 use mdg_base::{Items, NoMemory, Site, Text};
 use mdg_code::{Line, SharedRow, Statement};
 use mdg_profile::Profile;
@@ -35,10 +38,10 @@ fn site_of(target: Target) -> Site
 
 fn statement_with<'a>(
     columns: &ColumnTable<'a>,
-    shared: &[SharedRow],
+    shared: &SharedTable<'a>,
     draft: Draft,
 ) -> Result<Statement, NoMemory>
-    ensures { IfOk result (λ s. s ≡ settling.statement_with columns.now shared.now draft) }
+    ensures { (rows : List SharedRow) → IsTableOf rows shared.now → IfOk result (λ s. s ≡ settling.statement_with columns.now rows draft) }
 {
     match draft {
         Draft::Settled(statement) => Ok(statement),
@@ -61,7 +64,7 @@ fn statement_with<'a>(
             })
         }
         Draft::Shared { into, home, name } => {
-            let shared = shared_number(shared, home, name.as_str())?;
+            let shared = shared.number(home, name.as_str());
             Ok(Statement::Shared { into, shared })
         }
         Draft::Branch { left, right } => Ok(Statement::Branch {
@@ -73,10 +76,10 @@ fn statement_with<'a>(
 
 fn line_with<'a>(
     columns: &ColumnTable<'a>,
-    shared: &[SharedRow],
+    shared: &SharedTable<'a>,
     line: DraftLine,
 ) -> Result<Line, NoMemory>
-    ensures { IfOk result (λ l. l ≡ settling.line_with columns.now shared.now line) }
+    ensures { (rows : List SharedRow) → IsTableOf rows shared.now → IfOk result (λ l. l ≡ settling.line_with columns.now rows line) }
 {
     let DraftLine {
         draft,
@@ -99,9 +102,10 @@ fn lines_with(
     ensures { IfOk result (λ ls. ls ≡ map (settling.line_with (add_names [] columns.now) shared.now) drafts.items) }
 {
     let table = ColumnTable::of(alloc, columns)?;
+    let numbers = SharedTable::of(alloc, shared)?;
     let mut lines = Items::create(alloc);
     for line in drafts {
-        lines.push(line_with(&table, shared, line)?)?;
+        lines.push(line_with(&table, &numbers, line)?)?;
     }
     Ok(lines)
 }

@@ -1,12 +1,13 @@
 //! The globals and modules that drafts name, and their members.
 
-ghost use Rattle.std.specs.Prelude.{◌≡◌, ◌++◌, ◌∷◌, [], length, find, position, IfOk, OnOk};
-ghost use Rattle.std.specs.List.{list_any};
+ghost use Rattle.std.specs.Prelude.{◌≡◌, ◌++◌, ◌∷◌, [], length, find, IfOk, OnOk};
 ghost use Rattle.std.specs.Option.{option_copied};
+ghost use Rattle.mdg_lower.specs.Seeing as seeing;
 ghost use Rattle.mdg_lower.specs.Sharing as sharing_of;
 
 use crate::column::counted;
 use crate::draft::{Draft, DraftLine};
+use crate::seen::Seen;
 use mdg_base::{Home, Items, Kind, NoMemory, SharedId, Text};
 use mdg_code::SharedRow;
 use mdg_profile::Entry;
@@ -28,35 +29,37 @@ fn is_home(one: Home, other: Home) -> bool
     }
 }
 
-fn is_same(home: Home, name: &str, other: &Base) -> bool
-    ensures { result ≡ sharing_of.is_same (record { home = home; name = name.now }) other.now }
+/// Puts the global or the module behind the others, unless it was seen.
+fn add_base<'a>(
+    bases: &mut Items<Base>,
+    seen: &mut Seen<'a>,
+    alloc: Global,
+    home: Home,
+    name: &'a str,
+) -> Result<(), NoMemory>
+    ensures bases { OnOk result (seen.old ≡ seeing.seen_in bases.old → bases.new ≡ sharing_of.add_base bases.old (record { home = home; name = name.now })) }
+    ensures seen { OnOk result (seen.old ≡ seeing.seen_in bases.old → seen.new ≡ seeing.seen_in bases.new) }
 {
-    is_home(home, other.home) && name == other.name.as_str()
-}
-
-fn has_base(bases: &[Base], home: Home, name: &str) -> bool
-    ensures { result ≡ list_any (sharing_of.is_same (record { home = home; name = name.now })) bases.now }
-{
-    bases.iter().any(|other| is_same(home, name, other))
-}
-
-fn add_base(bases: &mut Items<Base>, alloc: Global, home: Home, name: &str) -> Result<(), NoMemory>
-    ensures { OnOk result (bases.new ≡ sharing_of.add_base bases.old (record { home = home; name = name.now })) }
-{
-    if has_base(bases.as_slice(), home, name) {
-        return Ok(());
+    if seen.add(home, name)? {
+        bases.push(Base {
+            home,
+            name: Text::of(alloc, name)?,
+        })?;
     }
-    bases.push(Base {
-        home,
-        name: Text::of(alloc, name)?,
-    })
+    Ok(())
 }
 
-fn put_draft(bases: &mut Items<Base>, alloc: Global, draft: &Draft) -> Result<(), NoMemory>
-    ensures { OnOk result (bases.new ≡ sharing_of.add_bases bases.old (sharing_of.base_in draft.now)) }
+fn put_draft<'a>(
+    bases: &mut Items<Base>,
+    seen: &mut Seen<'a>,
+    alloc: Global,
+    draft: &'a Draft,
+) -> Result<(), NoMemory>
+    ensures bases { OnOk result (seen.old ≡ seeing.seen_in bases.old → bases.new ≡ sharing_of.add_bases bases.old (sharing_of.base_in draft.now)) }
+    ensures seen { OnOk result (seen.old ≡ seeing.seen_in bases.old → seen.new ≡ seeing.seen_in bases.new) }
 {
     match draft {
-        Draft::Shared { home, name, .. } => add_base(bases, alloc, *home, name.as_str()),
+        Draft::Shared { home, name, .. } => add_base(bases, seen, alloc, *home, name.as_str()),
         Draft::Settled(_) | Draft::Get { .. } | Draft::Set { .. } | Draft::Branch { .. } => Ok(()),
     }
 }
@@ -66,9 +69,10 @@ fn put_draft(bases: &mut Items<Base>, alloc: Global, draft: &Draft) -> Result<()
 fn bases_of(alloc: Global, lines: &[DraftLine]) -> Result<Items<Base>, NoMemory>
     ensures { IfOk result (λ b. b ≡ sharing_of.bases_in lines.now) }
 {
+    let mut seen = Seen::create(alloc);
     let mut bases = Items::create(alloc);
     for line in lines {
-        put_draft(&mut bases, alloc, &line.draft)?;
+        put_draft(&mut bases, &mut seen, alloc, &line.draft)?;
     }
     Ok(bases)
 }
@@ -228,26 +232,4 @@ pub fn shared_rows(
 {
     let bases = bases_of(alloc, lines)?;
     rows_of(alloc, entries, bases.as_slice())
-}
-
-fn is_row_of(home: Home, name: &str, row: &SharedRow) -> bool
-    ensures { result ≡ sharing_of.is_row_of home name.now row.now }
-{
-    row.member.is_none() && is_home(home, row.home) && name == row.name.as_str()
-}
-
-fn place_of(rows: &[SharedRow], home: Home, name: &str) -> Option<usize>
-    ensures { result ≡ position (sharing_of.is_row_of home name.now) rows.now }
-{
-    rows.iter().position(|row| is_row_of(home, name, row))
-}
-
-/// The number of the row of the global or the module, or 0 where it has none.
-pub fn shared_number(rows: &[SharedRow], home: Home, name: &str) -> Result<SharedId, NoMemory>
-    ensures { IfOk result (λ s. s.0 ≡ sharing_of.shared_number rows.now home name.now) }
-{
-    match place_of(rows, home, name) {
-        Some(place) => Ok(SharedId(counted(place)?)),
-        None => Ok(SharedId(0)),
-    }
 }
