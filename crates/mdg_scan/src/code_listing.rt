@@ -1,7 +1,7 @@
 //! Code as lines, for tests.
 
-use mdg_base::{FunId, Local, Text};
-use mdg_code::{Code, FunctionRow, Line, Statement};
+use mdg_base::{FunId, Home, Kind, Local, Place, Text};
+use mdg_code::{Code, FileRow, FunctionRow, Line, SharedRow, Statement};
 use std::alloc::{AllocError, Global};
 
 fn text_of(text: &Option<Text>) -> &str {
@@ -99,15 +99,18 @@ fn statement_text(alloc: Global, statement: &Statement) -> Result<String, AllocE
     }
 }
 
+// The line and the offset, behind the number of the file where that isn't the entry.
+fn place_text(alloc: Global, place: &Place) -> Result<String, AllocError> {
+    match place.file.0 {
+        0 => format!(in alloc; "{}:{}", place.line, place.offset),
+        file => format!(in alloc; "file {file} {}:{}", place.line, place.offset),
+    }
+}
+
 fn line_text(alloc: Global, site: usize, line: &Line) -> Result<String, AllocError> {
-    let place = &line.place;
+    let place = place_text(alloc, &line.place)?;
     let statement = statement_text(alloc, &line.statement)?;
-    format!(in alloc;
-        "{site} at {}:{} {}\n",
-        place.line,
-        place.offset,
-        statement.as_str()
-    )
+    format!(in alloc; "{site} at {} {}\n", place.as_str(), statement.as_str())
 }
 
 fn number_of(alloc: Global, function: Option<FunId>) -> Result<String, AllocError> {
@@ -119,10 +122,9 @@ fn number_of(alloc: Global, function: Option<FunId>) -> Result<String, AllocErro
 
 fn function_text(alloc: Global, number: usize, row: &FunctionRow) -> Result<String, AllocError> {
     let mut out = format!(in alloc;
-        "function {number} in {} at {}:{} sites {}..{} locals {} {}",
+        "function {number} in {} at {} sites {}..{} locals {} {}",
         number_of(alloc, row.parent)?.as_str(),
-        row.place.line,
-        row.place.offset,
+        place_text(alloc, &row.place)?.as_str(),
         row.entry.0,
         row.end.0,
         row.locals,
@@ -152,8 +154,57 @@ fn add_cells(alloc: Global, out: &mut String, cells: &[FunId]) -> Result<(), All
     Ok(())
 }
 
-/// The statements, the functions, and the functions of the cells. It leaves out what `valid` ties to these: the columns,
-/// and the functions in which the statements lie.
+fn add_files(alloc: Global, out: &mut String, files: &[FileRow]) -> Result<(), AllocError> {
+    for (number, row) in files.iter().enumerate() {
+        let path = row.path.as_str();
+        let line = format!(in alloc;
+            "file {number} {path} body {} module cell {}\n",
+            row.body.0, row.module.0
+        )?;
+        out.push_str(line.as_str())?;
+    }
+    Ok(())
+}
+
+fn kind_text(alloc: Global, kind: &Kind) -> Result<String, AllocError> {
+    let mut out = String::new(alloc);
+    match kind {
+        Kind::Quiet => out.push_str("quiet")?,
+        Kind::Active => out.push_str("active")?,
+        Kind::Sink(arguments) => {
+            out.push_str("sink")?;
+            for argument in arguments.as_slice() {
+                out.push_str(format!(in alloc; " {argument}")?.as_str())?;
+            }
+        }
+    }
+    Ok(out)
+}
+
+fn shared_text(alloc: Global, number: usize, row: &SharedRow) -> Result<String, AllocError> {
+    let home = match row.home {
+        Home::Global => "global",
+        Home::Module => "module",
+    };
+    let mut out = format!(in alloc; "shared {number} {home} {}", row.name.as_str())?;
+    if let Some(member) = &row.member {
+        out.push_str(".")?;
+        out.push_str(member.as_str())?;
+    }
+    let kind = kind_text(alloc, &row.kind)?;
+    out.push_str(format!(in alloc; " {} of {}\n", kind.as_str(), row.base.0)?.as_str())?;
+    Ok(out)
+}
+
+fn add_shared(alloc: Global, out: &mut String, shared: &[SharedRow]) -> Result<(), AllocError> {
+    for (number, row) in shared.iter().enumerate() {
+        out.push_str(shared_text(alloc, number, row)?.as_str())?;
+    }
+    Ok(())
+}
+
+/// The statements, the functions, the functions of the cells, the files, and the shared things. It leaves out what `valid`
+/// ties to these: the columns, and the functions in which the statements lie.
 pub fn listed(alloc: Global, code: &Code) -> Result<String, AllocError> {
     let mut out = String::new(alloc);
     for (site, line) in code.lines.as_slice().iter().enumerate() {
@@ -161,5 +212,7 @@ pub fn listed(alloc: Global, code: &Code) -> Result<String, AllocError> {
     }
     add_functions(alloc, &mut out, code)?;
     add_cells(alloc, &mut out, code.cells.as_slice())?;
+    add_files(alloc, &mut out, code.files.as_slice())?;
+    add_shared(alloc, &mut out, code.shared.as_slice())?;
     Ok(out)
 }
