@@ -51,44 +51,83 @@ file 0 index.js body 0 module cell 0
 ",
 );
 
-// `continue` goes on at the step of a `for`, and at the test of a `do`.
+// `continue` goes on at the step of a `for`, and at the test of a `do`. A `for` without a step goes back to its test.
 pub const LOOPS: (&str, &str) = (
     "\
 'use strict';
-var a = 1;
+var a = 1, o = {};
+while (a) a = 0;
+do a = 1; while (a);
+for (a = 0; a; a++) o = a;
 for (var i = 0, j; ; i++) { if (i) break; continue; }
+for (; a; ) a = 0;
+for (;;) { while (1) { break; } continue; }
 do { if (a) continue; break; } while (a);
 ",
     "\
-0 at 1:0 l5 = object
-1 at 1:0 l6 = object
-2 at 1:0 l5.exports = l6
-3 at 1:0 cell 0 = l5
-4 at 1:0 l0 = l5
-5 at 1:0 l1 = l6
-6 at 2:22 l5 = literal 1
-7 at 2:14 l2 = l5
-8 at 3:38 l5 = literal 0
-9 at 3:30 l3 = l5
-10 at 3:25 branch 11 20
-11 at 3:57 l5 = l3
-12 at 3:53 branch 13 14
-13 at 3:60 branch 20 20
-14 at 3:67 branch 15 15
-15 at 3:46 l5 = l3
-16 at 3:46 l5 = op l5
-17 at 3:46 l6 = op l5
-18 at 3:46 l3 = l6
-19 at 3:25 branch 10 10
-20 at 4:88 l5 = l2
-21 at 4:84 branch 22 23
-22 at 4:91 branch 24 24
-23 at 4:101 branch 26 26
-24 at 4:117 l5 = l2
-25 at 4:79 branch 20 26
-26 at 1:0 l5 = literal undefined
-27 at 1:0 return l5
-function 0 in - at 1:0 sites 0..27 locals 7 -
+0 at 1:0 l6 = object
+1 at 1:0 l7 = object
+2 at 1:0 l6.exports = l7
+3 at 1:0 cell 0 = l6
+4 at 1:0 l0 = l6
+5 at 1:0 l1 = l7
+6 at 2:22 l6 = literal 1
+7 at 2:14 l2 = l6
+8 at 2:29 l6 = object
+9 at 2:14 l3 = l6
+10 at 3:40 l6 = l2
+11 at 3:33 branch 12 15
+12 at 3:47 l6 = literal 0
+13 at 3:43 l2 = l6
+14 at 3:33 branch 10 10
+15 at 4:57 l6 = literal 1
+16 at 4:53 l2 = l6
+17 at 4:67 l6 = l2
+18 at 4:50 branch 15 19
+19 at 5:80 l6 = literal 0
+20 at 5:76 l2 = l6
+21 at 5:83 l6 = l2
+22 at 5:71 branch 23 30
+23 at 5:95 l6 = l2
+24 at 5:91 l3 = l6
+25 at 5:86 l6 = l2
+26 at 5:86 l6 = op l6
+27 at 5:86 l7 = op l6
+28 at 5:86 l2 = l7
+29 at 5:71 branch 21 21
+30 at 6:111 l6 = literal 0
+31 at 6:103 l4 = l6
+32 at 6:98 branch 33 42
+33 at 6:130 l6 = l4
+34 at 6:126 branch 35 36
+35 at 6:133 branch 42 42
+36 at 6:140 branch 37 37
+37 at 6:119 l6 = l4
+38 at 6:119 l6 = op l6
+39 at 6:119 l7 = op l6
+40 at 6:119 l4 = l7
+41 at 6:98 branch 32 32
+42 at 7:159 l6 = l2
+43 at 7:152 branch 44 47
+44 at 7:168 l6 = literal 0
+45 at 7:164 l2 = l6
+46 at 7:152 branch 42 42
+47 at 8:171 branch 48 54
+48 at 8:189 l6 = literal 1
+49 at 8:182 branch 50 52
+50 at 8:194 branch 52 52
+51 at 8:182 branch 48 48
+52 at 8:203 branch 53 53
+53 at 8:171 branch 47 47
+54 at 9:224 l6 = l2
+55 at 9:220 branch 56 57
+56 at 9:227 branch 58 58
+57 at 9:237 branch 60 60
+58 at 9:253 l6 = l2
+59 at 9:215 branch 54 60
+60 at 1:0 l6 = literal undefined
+61 at 1:0 return l6
+function 0 in - at 1:0 sites 0..61 locals 8 -
 cells of 0
 file 0 index.js body 0 module cell 0
 ",
