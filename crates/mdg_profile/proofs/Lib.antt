@@ -3,3 +3,5 @@ pub mod Unique
 pub mod Numbers
 pub mod Turns
 pub mod Answer
+pub mod DistinctTable
+pub mod DistinctRead

@@ -7,7 +7,8 @@ use Rattle.std.proofs.lemmas.Option.{slice_get-get_or, slice_get_within, MatchOp
 use Rattle.std.proofs.lemmas.Slice.Zip.{AllZip-left, AllZip-right}
 use Rattle.mdg_profile.specs.declared.entry.Entry.{Entry}
 use Rattle.mdg_profile.specs.Entries.{IsEntry, BreaksForm}
-use Rattle.mdg_profile.specs.Format.{BreaksAt, RepeatsAt, IsFirst, SameName}
+use Rattle.mdg_profile.specs.Distinct.{SameName}
+use Rattle.mdg_profile.specs.Format.{BreaksAt, RepeatsAt, IsFirst}
 use Rattle.mdg_profile.specs.Listed.{IsListed}
 use Rattle.mdg_profile.proofs.Unique.{one_entry}
 use Rattle.serde_json.specs.Data.{Data}

@@ -6,6 +6,7 @@ use Rattle.mdg_profile.specs.declared.entry.Entry.{Entry}
 use Rattle.mdg_profile.specs.declared.entry.Profile.{Profile}
 use Rattle.mdg_profile.specs.declared.refusal.ProfileRefusal.{ProfileRefusal}
 use Rattle.mdg_profile.specs.declared.refusal.ProfileRefusal.TheVariants.{NotJson, NotProfile, BadMember, RepeatedName, NoMemory}
+use Rattle.mdg_profile.specs.Distinct.{SameName}
 use Rattle.mdg_profile.specs.Entries.{IsEntry, BreaksForm}
 use Rattle.mdg_profile.specs.Members.{has_only, natural}
 use Rattle.serde_json.specs.Data.{Data}
@@ -33,12 +34,6 @@ pub record Lists (bytes : List ℕ) (items : List Data) : Type 0 where
   pub value : Data
   pub json : IsJson bytes value
   pub listing : IsListing value items
-
--- the entries speak of the same name
-pub record SameName (one other : Entry) : Type 0 where
-  pub home : one.home ≡ other.home
-  pub name : one.name ≡ other.name
-  pub member : one.member ≡ other.member
 
 -- the value at this index is this entry
 pub record IsEntryAt (items : List Data) (index : ℕ) (entry : Entry) : Type 0 where

@@ -1,6 +1,7 @@
 pub mod Listing
 pub mod Table
 pub mod Members
+pub mod Distinct
 pub mod Entries
 pub mod Parts
 pub mod Format

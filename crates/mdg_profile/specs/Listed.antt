@@ -4,8 +4,9 @@ use Rattle.std.specs.List.{AllZip}
 use Rattle.mdg_profile.specs.declared.entry.Entry.{Entry}
 use Rattle.mdg_profile.specs.declared.refusal.ProfileRefusal.{ProfileRefusal}
 use Rattle.mdg_profile.specs.declared.refusal.ProfileRefusal.TheVariants.{NotJson, NotProfile, BadMember, RepeatedName, NoMemory}
+use Rattle.mdg_profile.specs.Distinct.{SameName}
 use Rattle.mdg_profile.specs.Entries.{IsEntry}
-use Rattle.mdg_profile.specs.Format.{IsJson, IsListing, SameName, BreaksAt, RepeatsAt, IsFirst}
+use Rattle.mdg_profile.specs.Format.{IsJson, IsListing, BreaksAt, RepeatsAt, IsFirst}
 use Rattle.mdg_profile.specs.Members.{natural}
 use Rattle.serde_json.specs.Data.{Data}
 use Rattle.serde_json.specs.Find.{get}

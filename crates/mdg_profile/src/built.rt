@@ -1,6 +1,7 @@
 //! The profile that stands where none is given.
 ghost use Rattle.std.specs.Prelude.{◌≡◌, ◌++◌, IfOk, OnOk};
 ghost use Rattle.std.specs.List.{flat_map};
+ghost use Rattle.mdg_profile.specs.Distinct.{HasDistinctEntries};
 ghost use Rattle.mdg_profile.specs.Listing.{group_entries};
 ghost use Rattle.mdg_profile.specs.Table.{active_globals, default_table, listed_globals, modules, quiet_globals};
 
@@ -255,9 +256,8 @@ fn add_modules(alloc: Global, entries: &mut Items<Entry>) -> Result<(), NoMemory
     add_groups(alloc, entries, &MODULES)
 }
 
-/// The profile that stands where none is given: each global and module, and after it its listed members.
 #[tactic(auto, unfolding(crate::specs::Table::default_table))]
-pub fn default_profile(alloc: Global) -> Result<Profile, NoMemory>
+fn table(alloc: Global) -> Result<Profile, NoMemory>
     ensures { IfOk result (λ profile. profile ≡ default_table) }
 {
     let mut entries = Items::create(alloc);
@@ -266,4 +266,13 @@ pub fn default_profile(alloc: Global) -> Result<Profile, NoMemory>
     add_active_globals(alloc, &mut entries)?;
     add_modules(alloc, &mut entries)?;
     Ok(Profile { entries })
+}
+
+/// The profile that stands where none is given: each global and module, and after it its listed members. No two
+/// entries have the same home, name and member.
+pub fn default_profile(alloc: Global) -> Result<Profile, NoMemory>
+    ensures table { IfOk result (λ profile. profile ≡ default_table) }
+    ensures distinct { IfOk result HasDistinctEntries }
+{
+    table(alloc)
 }

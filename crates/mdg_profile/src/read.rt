@@ -1,6 +1,7 @@
 //! Profiles read from bytes.
-ghost use Rattle.std.specs.Prelude.{◌≡◌, ◌↔◌, IsTrue, map, option_map};
-ghost use Rattle.mdg_profile.specs.Format.{Answers, HasCause, HasOneAnswer, SameName};
+ghost use Rattle.std.specs.Prelude.{◌≡◌, ◌↔◌, IfOk, IsTrue, map, option_map};
+ghost use Rattle.mdg_profile.specs.Distinct.{HasDistinctEntries, SameName};
+ghost use Rattle.mdg_profile.specs.Format.{Answers, HasCause, HasOneAnswer};
 ghost use Rattle.mdg_profile.specs.Listed.{EntriesCause, HasVersion, IsListed, ListingCause, ValueCause};
 ghost use Rattle.serde_json.specs.View.{view};
 
@@ -102,10 +103,11 @@ fn profile_of(alloc: Global, bytes: &[u8]) -> Result<Profile, ProfileRefusal>
 /// `NotJson` comes where the bytes are no UTF-8, or are no JSON that nests at most 127 deep. Else `NotProfile`
 /// comes where the value isn't an object of exactly `version`, the number 1, and `entries`, an array. Else the
 /// first entry that is out of form, or repeats the home, name and member of an earlier one, is refused as
-/// `BadMember` or `RepeatedName` with its number, from 0.
+/// `BadMember` or `RepeatedName` with its number, from 0. So no two entries have the same home, name and member.
 pub fn read_profile(alloc: Global, bytes: &[u8]) -> Result<Profile, ProfileRefusal>
     ensures cause { HasCause bytes.now result }
     ensures answers { Answers bytes.now result }
+    ensures distinct { IfOk result HasDistinctEntries }
 {
     profile_of(alloc, bytes)
 }
