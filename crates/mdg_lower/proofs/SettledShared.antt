@@ -20,7 +20,7 @@ use Rattle.mdg_lower.specs.declared.draft.Draft.TheVariants as d
 use Rattle.mdg_lower.specs.declared.draft.DraftLine.{DraftLine}
 use Rattle.mdg_lower.specs.declared.sharing.Base.{Base}
 use Rattle.mdg_lower.specs.Columns.{columns_in}
-use Rattle.mdg_lower.specs.Fitting.{IsSameEntry}
+use Rattle.mdg_profile.specs.Distinct.{AreDistinct, SameName}
 use Rattle.mdg_lower.specs.Sharing.{is_home, is_same, add_base, add_bases, base_in, named_bases, bases_in, is_about, is_member_of, base_row, member_row, member_rows, base_rows, rows_of, shared_in, is_row_of, number_by, shared_number}
 use Rattle.mdg_lower.specs.Settling.{statement_with}
 use Rattle.mdg_lower.specs.Sound.{Counts, IsTame, IsTameDraft}
@@ -117,24 +117,24 @@ member_about base entry is =
 
 -- entries whose rows have the same base and member say what the same name does
 same_entry : (number : ℕ) (base : Base) (one other : Entry) → is_member_of base one ≡ true → is_member_of base other ≡ true
-    → IsSameMember (member_row number one) (member_row number other) → IsSameEntry one other
+    → IsSameMember (member_row number one) (member_row number other) → SameName one other
 same_entry number base one other first second same =
     let p = member_about base one first in
     let q = member_about base other second in
-    (sym p.0 ∙ q.0, sym p.1 ∙ q.1, same_member one.member other.member same.1)
+    record { home = sym p.0 ∙ q.0; name = sym p.1 ∙ q.1; member = same_member one.member other.member same.1 }
 
 -- the members of one base are distinct
-members_apart : (number : ℕ) (base : Base) (entries : List Entry) → AllPairs (λ one other. ¬ IsSameEntry one other) entries
+members_apart : (number : ℕ) (base : Base) (entries : List Entry) → AreDistinct entries
     → AreMembersDistinct (member_rows number base entries)
 members_apart number base entries distinct =
     let listed = filter (is_member_of base) entries in
     let passed = filter_passes (is_member_of base) entries in
     pairs_mapped (λ row other. ¬ IsSameMember row other) (member_row number) listed
     (λ i j d lt within same.
-    AllPairs-filter (λ one other. ¬ IsSameEntry one other) (is_member_of base) entries distinct i j d lt within
+    AllPairs-filter (λ one other. ¬ SameName one other) (is_member_of base) entries distinct i j d lt within
     (same_entry number base (get_or listed i d) (get_or listed j d) (passed i d (omega arith)) (passed j d within) same))
 
-rows_apart : (entries : List Entry) (number : ℕ) (bases : List Base) → AllPairs (λ one other. ¬ IsSameEntry one other) entries
+rows_apart : (entries : List Entry) (number : ℕ) (bases : List Base) → AreDistinct entries
     → AreMembersDistinct (rows_of entries number bases)
 rows_apart entries number [] distinct = λ i j d lt within. absurd (omega arith)
 rows_apart entries number (base ∷ bases) distinct =
@@ -152,7 +152,7 @@ rows_apart entries number (base ∷ bases) distinct =
     absurd (omega arith))
 
 -- No two rows with a member have the same base and member, where no two entries say what the same name does.
-pub members_distinct : (entries : List Entry) (lines : List DraftLine) → AllPairs (λ one other. ¬ IsSameEntry one other) entries
+pub members_distinct : (entries : List Entry) (lines : List DraftLine) → AreDistinct entries
     → AreMembersDistinct (shared_in entries lines)
 unfolding shared_in
 members_distinct entries lines distinct = rows_apart entries 0 (bases_in lines) distinct

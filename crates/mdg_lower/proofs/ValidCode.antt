@@ -15,7 +15,8 @@ use Rattle.mdg_scope.specs.declared.bound.Bound.{Bound}
 use Rattle.mdg_lower.specs.declared.draft.DraftLine.{DraftLine}
 use Rattle.mdg_lower.specs.Columns.{columns_in}
 use Rattle.mdg_lower.specs.Filing.{Filed, code_with, filed, lowered}
-use Rattle.mdg_lower.specs.Fitting.{Fits, IsSameEntry}
+use Rattle.mdg_profile.specs.Distinct.{AreDistinct}
+use Rattle.mdg_lower.specs.Fitting.{Fits}
 use Rattle.mdg_lower.specs.Settling.{line_with, settled, statement_with}
 use Rattle.mdg_lower.specs.Sharing.{shared_in}
 use Rattle.mdg_lower.specs.Sound.{Counts, IsTameDraft}
@@ -94,7 +95,7 @@ module _ (n : Counts) (entries : List Entry) (f : Filed) (grown : FilesGrown n f
   follow = subst (FollowOn 0 f.rows.functions) (sym (length-map f.lines (line_with columns shared))) grown.order.laid.follow
 
   -- the code is in order
-  pub valid_code : 0 < n.files → AllPairs (λ one other. ¬ IsSameEntry one other) entries → IsCounted code → IsValid code
+  pub valid_code : 0 < n.files → AreDistinct entries → IsCounted code → IsValid code
   unfolding settled
   valid_code some distinct counted = record {
     has_file = omega (arith, some, grown.files_all);

@@ -1,15 +1,11 @@
 -- When files fit together, so that their lowering is in order.
-use Rattle.std.specs.Prelude.{◌≡◌, ◌+◌, ◌<◌, List, All, AllPairs, IfSome, length}
-use Rattle.mdg_profile.specs.declared.entry.Entry.{Entry}
+use Rattle.std.specs.Prelude.{◌≡◌, ◌+◌, ◌<◌, List, All, IfSome, length}
+use Rattle.mdg_profile.specs.Distinct.{HasDistinctEntries}
 use Rattle.mdg_profile.specs.declared.entry.Profile.{Profile}
 use Rattle.mdg_scope.specs.declared.bound.Bound.{Bound}
 use Rattle.mdg_scope.specs.declared.bound.Require.{Require}
 use Rattle.mdg_scope.specs.Bindings.{Binds}
 use Rattle.mdg_lower.specs.Walking.{functions_in}
-
--- both say what the same name does
-abbrev pub IsSameEntry : Entry → Entry → Type 0
-IsSameEntry one other = (one.home ≡ other.home) × (one.name ≡ other.name) × (one.member ≡ other.member)
 
 -- The file's table of functions has a row for its body and one for each of its functions, each in one of them.
 pub record FileFits (b : Bound) : Type 0 where
@@ -19,7 +15,7 @@ pub record FileFits (b : Bound) : Type 0 where
 pub record Fits (files : List Bound) (profile : Profile) : Type 0 where
   pub has_file : 0 < length files
   pub files_fit : All FileFits files
-  pub entries_distinct : AllPairs (λ one other. ¬ IsSameEntry one other) profile.entries
+  pub entries_distinct : HasDistinctEntries profile
 
 -- The file is what its path and its tree bind under the profile, but for what its requires ask for.
 pub record IsBoundFile (profile : Profile) (b : Bound) : Type 0 where
@@ -30,4 +26,4 @@ pub record IsBoundFile (profile : Profile) (b : Bound) : Type 0 where
 pub record AreBound (files : List Bound) (profile : Profile) : Type 0 where
   pub has_file : 0 < length files
   pub files_bound : All (IsBoundFile profile) files
-  pub entries_distinct : AllPairs (λ one other. ¬ IsSameEntry one other) profile.entries
+  pub entries_distinct : HasDistinctEntries profile
