@@ -3,14 +3,14 @@ use Rattle.std.proofs.Common.{◌≡◌, ℕ, ◌≤◌, List, [], ◌∷◌, �
 use Rattle.std.specs.Prelude.{Option, Some, None, Result, Ok, Err}
 use Rattle.std.proofs.lemmas.List.{length-map}
 use Rattle.mdg_pack.specs.Paths.{Path}
-use Rattle.mdg_pack.specs.Finding.{Given, Step, goes, ends, then_with, paths, looked, found, found_among, found_or, last_of}
-use Rattle.mdg_pack.specs.Outside.{Outside, Agrees, IsSound, Saw, IsCounted, Explains, Did, Refuses, RefusesUnlessMemory, Answers, Stays, Carries}
+use Rattle.mdg_pack.specs.Finding.{Step, goes, ends, then_with, paths, looked, found, found_among, found_or, last_of}
+use Rattle.mdg_pack.specs.Reads.{Given}
+use Rattle.mdg_pack.specs.Outside.{Outside, IsSound, Saw, IsCounted, Did, Refuses, RefusesUnlessMemory, Answers, Stays, Carries, failing_at, TellsLastOf}
 use Rattle.mdg_pack.specs.declared.fault.PackFault.{PackFault}
 use Rattle.mdg_pack.specs.declared.fault.PackFault.TheVariants as fault
 use Rattle.mdg_pack.specs.declared.search.Search.{Search}
 use Rattle.mdg_pack.proofs.Searches.{ChosenSeen, chosen_seen}
 use Rattle.mdg_pack.proofs.Calls.{stays_then, counted_none, saw_before, saw_after, answers_later, answers_refused, answers_same}
-use Rattle.mdg_pack.proofs.Looks.{others_longer}
 
 pub stays_same : (a : Outside) → Stays a a
 stays_same a = record { held = refl; faults = omega arith }
@@ -19,17 +19,19 @@ stays_same a = record { held = refl; faults = omega arith }
 pub did_here : {A : Type 0} (now : Outside) (search : Search) (value : A) → IsSound search → Saw now.told search → Did (λ given. goes value search) now now search search value
 did_here now search value sound saw = record { sound = sound; saw = saw; is = λ given agrees. refl; keeps = λ given agrees. agrees; longer = omega arith; counted = counted_none now (length search.asked) }
 
--- the refusal at once, after nothing more was asked
-pub refuses_here : {A : Type 0} (now : Outside) (search : Search) (refusal : PackFault) (run : Given → Step A) → Saw now.told search → ((given : Given) → run given ≡ ends (paths search) refusal)
-    → ((step : Step A) → step ≡ ends (paths search) refusal → Explains refusal step (paths search)) → Refuses run now now search refusal
-refuses_here now search refusal run saw is explains =
-    let choice = chosen_seen now.told search saw in
+-- the refusal at once, after nothing more was asked; no read failed
+refuses_here : {A : Type 0} (now : Outside) (search : Search) (path : Path) (run : Given → Step A) → IsSound search → Saw now.told search → ((given : Given) → run given ≡ ends (paths search) (fault.NoFile path))
+    → Refuses run now now search (fault.NoFile path)
+refuses_here now search path run sound saw is =
+    let choice = chosen_seen now.told search sound saw in
     record {
       given = choice.given;
+      short = choice.short;
+      asked = paths search;
       told = choice.told_is;
       agrees = choice.agrees;
-      asked = paths search;
-      explains = explains (run choice.given) (is choice.given);
+      is = is choice.given;
+      last = tt;
       counted = subst (λ n. IsCounted now now (length search.asked) n) (sym (length-map search.asked _)) (counted_none now (length search.asked));
     }
 
@@ -70,10 +72,10 @@ module _ (candidates : List Path) (before : Outside) (old : Search) where
     pub find_refused : (refusal : PackFault) → RefusesUnlessMemory (λ given. looked given search path) now after search refusal → Answers Whole before after old new (Err refusal)
     find_refused refusal refuses = carries.goes_on after new (Err refusal) stays
         (answers_same (λ given. then_with (looked given search path) (Next given)) (Left left search) now after search new (Err refusal) opened
-        (answers_refused (λ given. looked given search path) Next now after search new refusal (λ given file s. others_longer given (last_of candidates) others file s) refuses))
+        (answers_refused (λ given. looked given search path) Next now after search new refusal refuses))
 
   pub find_none : (now : Outside) (search : Search) (path : Path) (left : List Path) → left ≡ [] → Carries Whole before old (Left left search) now search → path ≡ last_of candidates → Answers Whole before now old search (Err (fault.NoFile path))
   unfolding found_among
   find_none now search path left none carries is = subst (λ p. Answers Whole before now old search (Err (fault.NoFile p))) (sym is)
       (carries.goes_on now search (Err (fault.NoFile (last_of candidates))) (stays_same now)
-      (tt, refuses_here now search (fault.NoFile (last_of candidates)) (Left left search) (saw_after before now search carries.stays carries.saw) (λ given. ap (λ xs. found_among given (last_of candidates) xs search) none) (λ step is. is)))
+      (tt, refuses_here now search (last_of candidates) (Left left search) carries.sound (saw_after before now search carries.stays carries.saw) (λ given. ap (λ xs. found_among given (last_of candidates) xs search) none)))

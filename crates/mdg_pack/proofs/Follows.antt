@@ -2,37 +2,16 @@
 use Rattle.std.proofs.Common.{◌≡◌, ℕ, List, [], ◌∷◌, ◌++◌, refl, sym, ◌∙◌, ap, subst}
 use Rattle.std.specs.Prelude.{Option, Some, None, Result, Ok, Err}
 use Rattle.mdg_pack.specs.Paths.{Path, named}
-use Rattle.mdg_pack.specs.Finding.{Given, Step, goes, ends, then_with, paths, found, found_among, last_of, goal_found, goal_of, with_goal, followed}
-use Rattle.mdg_pack.specs.Outside.{Outside, IsSound, Saw, IsFront, asked_of, Did, RefusesUnlessMemory, Answers, Stays, Carries}
+use Rattle.mdg_pack.specs.Finding.{Step, goes, then_with, found, goal_found, goal_of, with_goal, followed}
+use Rattle.mdg_pack.specs.Reads.{Given}
+use Rattle.mdg_pack.specs.Outside.{Outside, IsSound, Saw, Did, RefusesUnlessMemory, Answers, Stays, Carries}
 use Rattle.mdg_pack.specs.declared.fault.PackFault.{PackFault}
 use Rattle.mdg_pack.specs.declared.search.Search.{Search}
 use Rattle.mdg_scope.specs.declared.bound.Require.{Require}
 use Rattle.mdg_scope.specs.declared.bound.Goal.{Goal}
 use Rattle.mdg_scope.specs.declared.bound.Goal.TheVariants.{Bare, Path as ToFind, File}
-use Rattle.mdg_pack.proofs.Calls.{stays_then, saw_before, saw_after, answers_later, answers_refused, answers_same, front_all, front_then, then_longer}
+use Rattle.mdg_pack.proofs.Calls.{stays_then, saw_before, saw_after, answers_later, answers_refused, answers_same}
 use Rattle.mdg_pack.proofs.Finds.{stays_same, did_here}
-use Rattle.mdg_pack.proofs.Looks.{found_longer}
-
--- ---- what is asked
-
-pub goal_longer : (given : Given) (folder : List Path) (require : Require) (goal : Goal) (search : Search) → IsFront (paths search) (asked_of (goal_found given folder require goal search))
-unfolding found
-goal_longer given folder require Bare search = front_all (paths search)
-goal_longer given folder require (File file) search = front_all (paths search)
-goal_longer given folder require ToFind search =
-    let candidates = named folder require.text in
-    let step = found_among given (last_of candidates) candidates search in
-    let next : ℕ → Search → Step Goal = λ number after. goes (goal_of number) after in
-    front_then (paths search) (asked_of step) (asked_of (then_with step next)) (found_longer given (last_of candidates) candidates search) (then_longer step next (λ number after. front_all (paths after)))
-
-pub followed_longer : (given : Given) (folder : List Path) (done required : List Require) (search : Search) → IsFront (paths search) (asked_of (followed given folder done required search))
-unfolding followed
-followed_longer given folder done [] search = front_all (paths search)
-followed_longer given folder done (require ∷ others) search =
-    let step = goal_found given folder require require.goal search in
-    let next : Goal → Search → Step (List Require) = λ goal after. followed given folder (done ++ with_goal require goal ∷ []) others after in
-    front_then (paths search) (asked_of step) (asked_of (then_with step next)) (goal_longer given folder require require.goal search)
-    (then_longer step next (λ goal after. followed_longer given folder (done ++ with_goal require goal ∷ []) others after))
 
 -- ---- one require
 
@@ -97,4 +76,4 @@ module _ (folder : List Path) (required : List Require) (before : Outside) (old 
     pub follow_refused : (refusal : PackFault) → RefusesUnlessMemory First now after search refusal → Answers Whole before after old new (Err refusal)
     follow_refused refusal refuses = carries.goes_on after new (Err refusal) stays
         (answers_same (λ given. then_with (First given) (Next given)) (Left done left search) now after search new (Err refusal) opened
-        (answers_refused First Next now after search new refusal (λ given goal s. followed_longer given folder (done ++ with_goal require goal ∷ []) others s) refuses))
+        (answers_refused First Next now after search new refusal refuses))

@@ -1,11 +1,12 @@
 -- A walk has at most one outcome.
 use Rattle.std.proofs.Common.{◌≡◌, ℕ, List, [], ◌∷◌, ◌++◌, length, refl, sym, ◌∙◌, ap, ap₂, subst}
 use Rattle.std.specs.Prelude.{Some, None, slice_get, Result, Ok, Err}
-use Rattle.mdg_pack.specs.Finding.{Given, Step, goes, ends, paths, found, no_search, followed_of}
+use Rattle.mdg_pack.specs.Finding.{goes, ends, paths, found, no_search, followed_of}
+use Rattle.mdg_pack.specs.Reads.{Given, gives, fails, later}
 use Rattle.mdg_pack.specs.Loading.{LoadsFile}
 use Rattle.mdg_pack.specs.Manifest.{Enters, HasEntry, manifest, entry_of_value}
 use Rattle.mdg_pack.specs.Paths.{Path}
-use Rattle.mdg_pack.specs.Walk.{Outcome, refused, packed, Walks, finished, unread, stopped, further, with_required, Starts, no_entry, entered, WalkBy, no_manifest, manifested, after_manifest}
+use Rattle.mdg_pack.specs.Walk.{Outcome, refused, packed, Walks, finished, unread, stopped, further, with_required, Starts, no_entry, entered, WalkBy, failed_manifest, no_manifest, manifested, after_manifest}
 use Rattle.mdg_pack.specs.declared.fault.PackFault.{PackFault}
 use Rattle.mdg_pack.specs.declared.search.Found.{Found}
 use Rattle.mdg_pack.specs.declared.search.Search.{Search}
@@ -84,7 +85,7 @@ one_entry : (bytes : List ℕ) (a b : List Path) → HasEntry bytes a → HasEnt
 one_entry bytes a b p q =
     let both = sym p.says ∙ ap entry_of_value (one_value bytes p.value q.value p.json q.json) ∙ q.says in cc
 
-pub one_enters : (read : Fetched) (a b : Result (List Path) PackFault) → Enters read a → Enters read b → a ≡ b
+one_enters : (read : Fetched) (a b : Result (List Path) PackFault) → Enters read a → Enters read b → a ≡ b
 one_enters Absent (Ok a) (Ok b) p q = ap Ok (p ∙ sym q)
 one_enters Absent (Ok a) (Err s) p q = absurd q
 one_enters Absent (Err r) b p q = absurd p
@@ -96,18 +97,28 @@ one_enters (Bytes bytes) (Ok a) (Err s) p q = absurd (q.1 a p)
 one_enters (Bytes bytes) (Err r) (Ok b) p q = absurd (p.1 b q)
 one_enters (Bytes bytes) (Err r) (Err s) p q = ap Err (p.0 ∙ sym q.0)
 
-pub only_starts : (read : Fetched) (given : Given) (profile : Profile) (entry : List Path) → Enters read (Ok entry) → (outcome : Outcome) → WalkBy read given profile outcome → (later : Outcome) × Starts given profile entry later × (outcome ≡ after_manifest later)
-only_starts read given profile entry enters outcome (no_manifest {refusal = r} is) = let no = one_enters read (Ok entry) (Err r) enters is in absurd cc
-only_starts read given profile entry enters outcome (manifested other {outcome = later} is starts) =
-    let both = one_enters read (Ok other) (Ok entry) is enters in
-    let same : other ≡ entry = cc in
-    (later, subst (λ e. Starts given profile e later) same starts, refl)
-
-pub one_walk_by : (read : Fetched) (given : Given) (profile : Profile) (one other : Outcome) → WalkBy read given profile one → WalkBy read given profile other → one ≡ other
-one_walk_by read given profile one other (no_manifest {refusal = r} is) (no_manifest {refusal = s} other_is) =
-    let both = one_enters read (Err r) (Err s) is other_is in
+pub one_walk_by : (given : Given) (profile : Profile) (one other : Outcome) → WalkBy given profile one → WalkBy given profile other → one ≡ other
+one_walk_by given profile one other (failed_manifest is) (failed_manifest other_is) = refl
+one_walk_by given profile one other (failed_manifest is) (no_manifest read other_is enters) = let no : fails ≡ gives read = sym is ∙ other_is in absurd cc
+one_walk_by given profile one other (failed_manifest is) (manifested read entry other_is enters starts) = let no : fails ≡ gives read = sym is ∙ other_is in absurd cc
+one_walk_by given profile one other (no_manifest read is enters) (failed_manifest other_is) = let no : gives read ≡ fails = sym is ∙ other_is in absurd cc
+one_walk_by given profile one other (no_manifest read {refusal = r} is enters) (no_manifest other_read {refusal = s} other_is other_enters) =
+    let reads : gives other_read ≡ gives read = sym other_is ∙ is in
+    let read_same : other_read ≡ read = cc in
+    let both = one_enters read (Err r) (Err s) enters (subst (λ f. Enters f (Err s)) read_same other_enters) in
     let same : r ≡ s = cc in ap (refused (manifest ∷ [])) same
-one_walk_by read given profile one other (no_manifest {refusal = r} is) (manifested entry other_is starts) = let no = one_enters read (Err r) (Ok entry) is other_is in absurd cc
-one_walk_by read given profile one other (manifested entry {outcome = later} is starts) walk =
-    let only = only_starts read given profile entry is other walk in
-    ap after_manifest (sym (one_starts given profile entry later only.0 starts only.1)) ∙ sym only.2
+one_walk_by given profile one other (no_manifest read {refusal = r} is enters) (manifested other_read entry other_is other_enters starts) =
+    let reads : gives other_read ≡ gives read = sym other_is ∙ is in
+    let read_same : other_read ≡ read = cc in
+    let no = one_enters read (Err r) (Ok entry) enters (subst (λ f. Enters f (Ok entry)) read_same other_enters) in absurd cc
+one_walk_by given profile one other (manifested read entry is enters starts) (failed_manifest other_is) = let no : gives read ≡ fails = sym is ∙ other_is in absurd cc
+one_walk_by given profile one other (manifested read entry is enters starts) (no_manifest other_read {refusal = s} other_is other_enters) =
+    let reads : gives other_read ≡ gives read = sym other_is ∙ is in
+    let read_same : other_read ≡ read = cc in
+    let no = one_enters read (Ok entry) (Err s) enters (subst (λ f. Enters f (Err s)) read_same other_enters) in absurd cc
+one_walk_by given profile one other (manifested read entry {outcome = first} is enters starts) (manifested other_read other_entry {outcome = second} other_is other_enters other_starts) =
+    let reads : gives other_read ≡ gives read = sym other_is ∙ is in
+    let read_same : other_read ≡ read = cc in
+    let both = one_enters read (Ok other_entry) (Ok entry) (subst (λ f. Enters f (Ok other_entry)) read_same other_enters) enters in
+    let same : other_entry ≡ entry = cc in
+    ap after_manifest (sym (one_starts (later given) profile entry first second starts (subst (λ e. Starts (later given) profile e second) same other_starts)))

@@ -4,17 +4,17 @@ use Rattle.std.specs.Prelude.{◌⊎◌, Option, Some, None, slice_get, nat_lt, 
 use Rattle.std.specs.List.{AllZip}
 use Rattle.std.proofs.lemmas.List.{append-nil}
 use Rattle.mdg_pack.specs.Answered.{IsSomeWalk}
-use Rattle.mdg_pack.specs.Finding.{Given, Step, goes, ends, then_with, paths, seen, seen_in, with_absent, with_file, looked, looked_by, asked_by, most_files, found, found_among, found_or, last_of, goal_found, goal_of, with_goal, followed, followed_of, no_search}
+use Rattle.mdg_pack.specs.Finding.{Step, goes, ends, then_with, paths, seen, seen_in, with_absent, with_file, looked, looked_by, asked_by, most_files, found, found_among, found_or, last_of, goal_found, goal_of, with_goal, followed, followed_of, no_search}
 use Rattle.mdg_pack.specs.Loading.{Loads, no_tokens, no_tree, no_bindings, bound as loads_bound}
 use Rattle.mdg_pack.specs.Packaged.{IsGoalFor, IsFound, IsPacked, IsPackage}
 use Rattle.mdg_pack.specs.Paths.{Path, named, folder_of}
-use Rattle.mdg_pack.specs.Walk.{Outcome, Walks, finished, unread, stopped, further, with_required, Starts, no_entry, entered, WalkBy, no_manifest, manifested}
+use Rattle.mdg_pack.specs.Reads.{Reading, gives, fails, Given, later}
+use Rattle.mdg_pack.specs.Walk.{Outcome, Walks, finished, unread, stopped, further, with_required, Starts, no_entry, entered, WalkBy, failed_manifest, no_manifest, manifested}
 use Rattle.mdg_pack.specs.declared.fault.PackFault.{PackFault}
 use Rattle.mdg_pack.specs.declared.fault.PackFault.TheVariants as fault
 use Rattle.mdg_pack.specs.declared.search.Found.{Found}
 use Rattle.mdg_pack.specs.declared.search.Search.{Search}
 use Rattle.mdg_pack.specs.declared.walk.Package.{Package}
-use Rattle.mdg_port.specs.declared.folder.Fetched.{Fetched}
 use Rattle.mdg_port.specs.declared.folder.Fetched.TheVariants.{Absent, TooLong, Bytes}
 use Rattle.mdg_profile.specs.declared.entry.Profile.{Profile}
 use Rattle.mdg_scope.specs.Bindings as bindings
@@ -79,13 +79,14 @@ looked_on given search after path file numbers is = by (seen search path) refl i
     })
     numbered_by bytes false it = absurd cc
 
-    read_by : (got : Fetched) → asked_by got search path ≡ goes file after → LookedOn search after file
-    read_by Absent it = moved_look search (with_absent search path) after None file it (record { on = record { numbers = numbers_absent search path numbers; longer = omega arith }; inside = λ number at. absurd cc })
-    read_by TooLong it = absurd cc
-    read_by (Bytes bytes) it = numbered_by bytes (nat_lt (length search.files) most_files) it
+    read_by : (reading : Reading) → asked_by reading search path ≡ goes file after → LookedOn search after file
+    read_by (gives Absent) it = moved_look search (with_absent search path) after None file it (record { on = record { numbers = numbers_absent search path numbers; longer = omega arith }; inside = λ number at. absurd cc })
+    read_by (gives TooLong) it = absurd cc
+    read_by fails it = absurd cc
+    read_by (gives (Bytes bytes)) it = numbered_by bytes (nat_lt (length search.files) most_files) it
 
     by : (o : Option (Option ℕ)) → seen search path ≡ o → looked_by o given search path ≡ goes file after → LookedOn search after file
-    by None new it = read_by (given path) it
+    by None new it = read_by (given (length search.asked) path) it
     by (Some f) old it = moved_look search search after f file it (record { on = record { numbers = numbers; longer = omega arith }; inside = λ number at. numbers.at path number (old ∙ ap Some at) })
 
 -- ---- finding
@@ -250,9 +251,10 @@ starts_packed given profile entry outcome (entered number search went walks) who
     let inside = on.inside in
     walks_packed given profile search [] outcome on.on.numbers (record { each = λ n file at. absurd cc; few = omega arith; entry = omega arith }) walks whole is
 
-walk_packed : (read : Fetched) (given : Given) (profile : Profile) (outcome : Outcome) → WalkBy read given profile outcome → (whole : Package) → outcome.result ≡ Ok whole → IsPackage profile whole
-walk_packed read given profile outcome (no_manifest enters) whole is = absurd cc
-walk_packed read given profile outcome (manifested entry {outcome = later} enters starts) whole is = starts_packed given profile entry later starts whole is
+walk_packed : (given : Given) (profile : Profile) (outcome : Outcome) → WalkBy given profile outcome → (whole : Package) → outcome.result ≡ Ok whole → IsPackage profile whole
+walk_packed given profile outcome (failed_manifest fails_is) whole is = absurd cc
+walk_packed given profile outcome (no_manifest read read_is enters) whole is = absurd cc
+walk_packed given profile outcome (manifested read entry {outcome = rest} read_is enters starts) whole is = starts_packed (later given) profile entry rest starts whole is
 
 pub is_package : (profile : Profile) (whole : Package) → IsSomeWalk profile (Ok whole) → IsPackage profile whole
-is_package profile whole some = walk_packed some.read some.given profile (record { asked = some.asked; result = Ok whole }) some.walk whole refl
+is_package profile whole some = walk_packed some.given profile (record { asked = some.asked; result = Ok whole }) some.walk whole refl

@@ -2,7 +2,8 @@
 use Rattle.std.proofs.Common.{◌≡◌, ℕ, ◌<◌, List, [], length, get_or, refl, sym, ◌∙◌, ap, ap₂, subst, inl, inr}
 use Rattle.std.specs.Prelude.{◌⊎◌, Some, slice_get, Result, Ok, Err}
 use Rattle.std.proofs.lemmas.Option.{slice_get-get_or}
-use Rattle.mdg_pack.specs.Finding.{Given, Step, followed, followed_of}
+use Rattle.mdg_pack.specs.Finding.{followed, followed_of}
+use Rattle.mdg_pack.specs.Reads.{Given}
 use Rattle.mdg_pack.specs.Gathering.{Turned, Unread, Stopped, TurnAnswer}
 use Rattle.mdg_pack.specs.Loading.{Loads}
 use Rattle.mdg_pack.specs.Outside.{Outside, Refuses, RoseAt, RefusesUnlessMemory, Answers}
@@ -15,18 +16,7 @@ use Rattle.mdg_pack.specs.declared.search.Search.{Search}
 use Rattle.mdg_profile.specs.declared.entry.Profile.{Profile}
 use Rattle.mdg_scope.specs.declared.bound.Bound.{Bound}
 use Rattle.mdg_scope.specs.declared.bound.Require.{Require}
-use Rattle.mdg_pack.proofs.Calls.{answers_same}
-
-pub refused_or : {A : Type 0} (run : Given → Step A) (a b : Outside) (old : Search) (refusal : PackFault) → RefusesUnlessMemory run a b old refusal → (refusal ≡ fault.NoMemory) ⊎ (RoseAt refusal a.faults b.faults × Refuses run a b old refusal)
-refused_or run a b old (fault.FolderFailed path) is = inr is
-refused_or run a b old fault.NoMemory is = inl refl
-refused_or run a b old fault.BadManifest is = inr is
-refused_or run a b old (fault.NoFile path) is = inr is
-refused_or run a b old (fault.TooLong path) is = inr is
-refused_or run a b old (fault.TooManyFiles count) is = inr is
-refused_or run a b old (fault.Text path refusal line) is = inr is
-refused_or run a b old (fault.Read path refusal line) is = inr is
-refused_or run a b old (fault.Scope path refusal line) is = inr is
+use Rattle.mdg_pack.proofs.Calls.{answers_same, or_memory}
 
 module _ (profile : Profile) (number : ℕ) (before after : Outside) (old new : Search) (files : List Found) (files_are : files ≡ old.files) (inside : number < length old.files) (file : Found) (file_is : file ≡ get_or files number file) where
   at_number : slice_get old.files number ≡ Some file
@@ -48,7 +38,7 @@ module _ (profile : Profile) (number : ℕ) (before after : Outside) (old new : 
     }
 
     pub turn_stopped : (refusal : PackFault) → RefusesUnlessMemory (λ given. followed given (folder_of path) [] required old) before after old refusal → TurnAnswer profile number before after old new (Err refusal)
-    turn_stopped refusal refuses = by (refused_or (λ given. followed_of given bound old) before after old refusal
+    turn_stopped refusal refuses = by (or_memory refusal (RoseAt refusal before.faults after.faults × Refuses (λ given. followed_of given bound old) before after old refusal)
         (answers_same (λ given. followed given (folder_of path) [] required old) (λ given. followed_of given bound old) before after old new (Err refusal) same_run refuses))
       where
         by : (refusal ≡ fault.NoMemory) ⊎ (RoseAt refusal before.faults after.faults × Refuses (λ given. followed_of given bound old) before after old refusal) → TurnAnswer profile number before after old new (Err refusal)

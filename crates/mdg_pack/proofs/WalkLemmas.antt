@@ -1,75 +1,47 @@
 -- How the walk over the files goes on.
-use Rattle.std.proofs.Common.{◌≡◌, ℕ, ◌+◌, ◌-◌, ◌^◌, ◌<◌, ◌≤◌, List, [], ◌∷◌, ◌++◌, length, refl, sym, ◌∙◌, ap, subst, arith, inl, inr}
-use Rattle.std.specs.Prelude.{◌⊎◌, Some, None, slice_get, Result, Ok, Err}
+use Rattle.std.proofs.Common.{◌≡◌, ℕ, ◌≤◌, List, [], ◌∷◌, ◌++◌, length, refl, sym, ◌∙◌, ap, subst, inl, inr}
+use Rattle.std.specs.Prelude.{◌⊎◌, Option, Some, None, slice_get, Result, Ok, Err}
 use Rattle.std.proofs.lemmas.List.{length-map}
 use Rattle.std.proofs.lemmas.Option.{slice_get_past}
-use Rattle.mdg_pack.specs.Finding.{Given, Step, goes, ends, paths, followed_of}
-use Rattle.mdg_pack.specs.Gathering.{Turned, Unread, Stopped, TurnAnswer, outcome_of, Walked, FailedWalk, WalkRefusal, WalkAnswer, WalksOn}
+use Rattle.mdg_pack.specs.Finding.{Step, goes, ends, paths, followed_of}
+use Rattle.mdg_pack.specs.Gathering.{Turned, Unread, Stopped, TurnAnswer, Walked, WalkAnswer, WalksOn}
 use Rattle.mdg_pack.specs.Loading.{Loads, LoadsFile, no_tokens, no_tree, no_bindings}
-use Rattle.mdg_pack.specs.Outside.{Outside, Agrees, IsSound, Saw, GivesTold, IsCounted, IsFront, IsLastAsked, asked_of, Did, Explains, Refuses, RoseAt, Stays}
-use Rattle.mdg_pack.specs.Paths.{Path, folder_of}
+use Rattle.mdg_pack.specs.Outside.{Outside, IsSound, Saw, GivesTold, IsCounted, RoseAt, Stays, failing_at, TellsLastOf}
+use Rattle.mdg_pack.specs.Paths.{Path}
+use Rattle.mdg_pack.specs.Reads.{Given}
 use Rattle.mdg_pack.specs.Walk.{Outcome, refused, packed, Walks, finished, unread, stopped, further, with_required}
 use Rattle.mdg_pack.specs.declared.fault.PackFault.{PackFault}
 use Rattle.mdg_pack.specs.declared.fault.PackFault.TheVariants as fault
 use Rattle.mdg_pack.specs.declared.search.Found.{Found}
 use Rattle.mdg_pack.specs.declared.search.Search.{Search}
-use Rattle.mdg_pack.specs.declared.walk.Package.{Package}
 use Rattle.mdg_profile.specs.declared.entry.Profile.{Profile}
 use Rattle.mdg_scope.specs.declared.bound.Bound.{Bound}
 use Rattle.mdg_scope.specs.declared.bound.Require.{Require}
 use Rattle.mdg_pack.proofs.Searches.{ChosenSeen, chosen_seen}
-use Rattle.mdg_pack.proofs.Calls.{stays_then, counted_then, counted_none, saw_before, saw_after, front_all, front_then}
+use Rattle.mdg_pack.proofs.Calls.{stays_then, counted_then, counted_none, saw_before, rose_later, unless_memory, or_memory, for_memory}
 use Rattle.mdg_pack.proofs.Finds.{stays_same}
-use Rattle.mdg_pack.proofs.Follows.{followed_longer}
 use Rattle.mdg_pack.proofs.OneLoad.{one_load}
 
-not_failed : (profile : Profile) (file : Path) (bytes : List ℕ) (path : Path) (r : Result Bound PackFault) → Loads profile file bytes r → r ≡ Err (fault.FolderFailed path) → ⊥
-not_failed profile file bytes path (Err x) (no_tokens i p) is = cc
-not_failed profile file bytes path (Err x) (no_tree ts p i f) is = cc
-not_failed profile file bytes path (Err x) (no_bindings ts t p f i y) is = cc
-not_failed profile file bytes path (Ok x) l is = cc
+-- ---- a file that is refused
 
--- by which refusal it is
-refusal_by : (profile : Profile) (before after : Outside) (old : Search) (refusal : PackFault) → ((path : Path) → refusal ≡ fault.FolderFailed path → FailedWalk profile before after old path)
-    → (((path : Path) → refusal ≡ fault.FolderFailed path → ⊥) → Walked profile before after old (Err refusal)) → WalkRefusal profile before after old refusal
-refusal_by profile before after old fault.NoMemory failed other = tt
-refusal_by profile before after old (fault.FolderFailed path) failed other = failed path refl
-refusal_by profile before after old fault.BadManifest failed other = other (λ p is. cc)
-refusal_by profile before after old (fault.NoFile path) failed other = other (λ p is. cc)
-refusal_by profile before after old (fault.TooLong path) failed other = other (λ p is. cc)
-refusal_by profile before after old (fault.TooManyFiles count) failed other = other (λ p is. cc)
-refusal_by profile before after old (fault.Text path refusal line) failed other = other (λ p is. cc)
-refusal_by profile before after old (fault.Read path refusal line) failed other = other (λ p is. cc)
-refusal_by profile before after old (fault.Scope path refusal line) failed other = other (λ p is. cc)
+-- no read failed
+record IsOwnRefusal (refusal : PackFault) : Type 0 where
+  pub failing : (asked : List Path) → failing_at refusal asked ≡ None
+  pub last : (asked : List Path) → TellsLastOf refusal asked
+  pub rose : (before after : ℕ) → RoseAt refusal before after
 
--- a refusal of a step that neither the folder nor memory gave
-pub ended_by : {A : Type 0} (refusal : PackFault) (step : Step A) (asked : List Path) → ((path : Path) → refusal ≡ fault.FolderFailed path → ⊥) → (refusal ≡ fault.NoMemory → ⊥) → Explains refusal step asked → step ≡ ends asked refusal
-ended_by fault.NoMemory step asked failed memory is = absurd (memory refl)
-ended_by (fault.FolderFailed path) step asked failed memory is = absurd (failed path refl)
-ended_by fault.BadManifest step asked failed memory is = is
-ended_by (fault.NoFile path) step asked failed memory is = is
-ended_by (fault.TooLong path) step asked failed memory is = is
-ended_by (fault.TooManyFiles count) step asked failed memory is = is
-ended_by (fault.Text path refusal line) step asked failed memory is = is
-ended_by (fault.Read path refusal line) step asked failed memory is = is
-ended_by (fault.Scope path refusal line) step asked failed memory is = is
+own_refusal : (profile : Profile) (file : Path) (bytes : List ℕ) (r : Result Bound PackFault) (refusal : PackFault) → Loads profile file bytes r → r ≡ Err refusal → IsOwnRefusal refusal
+own_refusal profile file bytes (Err x) refusal (no_tokens i p) is =
+    let same : x ≡ refusal = cc in subst IsOwnRefusal same (record { failing = λ asked. refl; last = λ asked. tt; rose = λ before after. tt })
+own_refusal profile file bytes (Err x) refusal (no_tree ts p i f) is =
+    let same : x ≡ refusal = cc in subst IsOwnRefusal same (record { failing = λ asked. refl; last = λ asked. tt; rose = λ before after. tt })
+own_refusal profile file bytes (Err x) refusal (no_bindings ts t p f i y) is =
+    let same : x ≡ refusal = cc in subst IsOwnRefusal same (record { failing = λ asked. refl; last = λ asked. tt; rose = λ before after. tt })
+own_refusal profile file bytes (Ok x) refusal l is = absurd cc
 
--- ---- what a walk asks
+-- ---- one file
 
 module _ (given : Given) (profile : Profile) where
-  front_goes : (bound : Bound) (search after : Search) (required : List Require) → followed_of given bound search ≡ goes required after → IsFront (paths search) (paths after)
-  front_goes bound search after required is = subst (λ step. IsFront (paths search) (asked_of step)) is (followed_longer given (folder_of bound.path) [] bound.required search)
-
-  front_ends : (bound : Bound) (search : Search) (asked : List Path) (refusal : PackFault) → followed_of given bound search ≡ ends asked refusal → IsFront (paths search) asked
-  front_ends bound search asked refusal is = subst (λ step. IsFront (paths search) (asked_of step)) is (followed_longer given (folder_of bound.path) [] bound.required search)
-
-  pub walks_longer : (search : Search) (done : List Bound) (outcome : Outcome) → Walks given profile search done outcome → IsFront (paths search) outcome.asked
-  walks_longer search done outcome (finished none) = front_all (paths search)
-  walks_longer search done outcome (unread file at loads) = front_all (paths search)
-  walks_longer search done outcome (stopped file bound {asked = asked} {refusal = refusal} at loads is) = front_ends bound search asked refusal is
-  walks_longer search done outcome (further file bound required after at loads is rest) =
-      front_then (paths search) (paths after) outcome.asked (front_goes bound search after required is) (walks_longer after (done ++ with_required bound required ∷ []) outcome rest)
-
   module _ (search : Search) (done : List Bound) (file : Found) (at : slice_get search.files (length done) ≡ Some file) (bound : Bound) (loads : LoadsFile profile file (Ok bound)) where
     same_file : (other : Found) → slice_get search.files (length done) ≡ Some other → other ≡ file
     same_file other there = let both = sym there ∙ at in cc
@@ -80,18 +52,7 @@ module _ (given : Given) (profile : Profile) where
     same_bound : (other : Found) (b : Bound) → slice_get search.files (length done) ≡ Some other → LoadsFile profile other (Ok b) → b ≡ bound
     same_bound other b there is = let same = same_load other (Ok b) there is in cc
 
-    -- what the requires of the next file ask is asked
-    pub next_asked : (outcome : Outcome) → Walks given profile search done outcome → IsFront (asked_of (followed_of given bound search)) outcome.asked
-    next_asked outcome (finished none) = let no = sym none ∙ at in absurd cc
-    next_asked outcome (unread other {refusal = r} there is) = let no = same_load other (Err r) there is in absurd cc
-    next_asked outcome (stopped other b {asked = asked} {refusal = r} there is ended) =
-        let same = ap (λ x. followed_of given x search) (sym (same_bound other b there is)) ∙ ended in
-        subst (λ step. IsFront (asked_of step) asked) (sym same) (front_all asked)
-    next_asked outcome (further other b required after there is went rest) =
-        let same = ap (λ x. followed_of given x search) (sym (same_bound other b there is)) ∙ went in
-        subst (λ step. IsFront (asked_of step) outcome.asked) (sym same) (walks_longer after (done ++ with_required b required ∷ []) outcome rest)
-
-    -- the walk goes on behind the next file
+    -- the walk goes on after the next file
     pub next_walks : (required : List Require) (after : Search) → followed_of given bound search ≡ goes required after → (outcome : Outcome) → Walks given profile search done outcome → Walks given profile after (done ++ with_required bound required ∷ []) outcome
     next_walks required after goes_on outcome (finished none) = let no = sym none ∙ at in absurd cc
     next_walks required after goes_on outcome (unread other {refusal = r} there is) = let no = same_load other (Err r) there is in absurd cc
@@ -115,7 +76,6 @@ walk_begins profile before old sound saw = record {
   saw = saw;
   keeps = λ given agrees. agrees;
   back = λ given outcome agrees walks. walks;
-  forth = λ given outcome agrees walks. walks;
   counted = counted_none before (length old.asked);
 }
 
@@ -125,17 +85,19 @@ count_paths search = length-map search.asked _
 module _ (profile : Profile) (before now : Outside) (old search : Search) (done : List Bound) (on : WalksOn profile before now old search done) where
   pub walk_ends : length search.files ≤ length done → WalkAnswer profile before now old (Ok done)
   walk_ends all =
-      let choice = chosen_seen before.told search on.saw in
+      let choice = chosen_seen before.told search on.sound on.saw in
       record {
         given = choice.given;
+        short = choice.short;
+        asked = paths search;
         told = choice.told_is;
         agrees = on.keeps choice.given choice.agrees;
-        asked = paths search;
         walks = on.back choice.given (packed (paths search) done) choice.agrees (finished (slice_get_past search.files (length done) all));
+        last = tt;
         counted = subst (λ n. IsCounted before now (length old.asked) n) (sym (count_paths search)) on.counted;
       }
 
-  pub walk_goes : (after : Outside) (new : Search) (made : Bound) (more : List Bound) → Stays now after → more ≡ done ++ made ∷ [] → Turned profile (length done) now after search new made → WalksOn profile before after old new more
+  walk_goes : (after : Outside) (new : Search) (made : Bound) (more : List Bound) → Stays now after → more ≡ done ++ made ∷ [] → Turned profile (length done) now after search new made → WalksOn profile before after old new more
   walk_goes after new made more stays more_is turn =
       let did = turn.did in
       let files = ap (λ x. done ++ x ∷ []) turn.made_is in
@@ -146,84 +108,44 @@ module _ (profile : Profile) (before now : Outside) (old search : Search) (done 
         saw = saw_before before now new on.stays did.saw;
         keeps = λ given agrees. on.keeps given (did.keeps given agrees);
         back = λ given outcome agrees walks. on.back given outcome (did.keeps given agrees) (further turn.file turn.bound turn.required new turn.at turn.loads (did.is given agrees) walks);
-        forth = λ given outcome agrees walks. next_walks given profile search done turn.file turn.at turn.bound turn.loads turn.required new (did.is given agrees) outcome (on.forth given outcome (did.keeps given agrees) walks);
         counted = counted_then before now after (length old.asked) (length search.asked) (length new.asked) on.stays on.counted did.counted;
       })
 
   walk_unread : (after : Outside) (refusal : PackFault) → Unread profile (length done) now after search refusal → WalkAnswer profile before after old (Err refusal)
-  walk_unread after refusal is = refusal_by profile before after old refusal (λ path failed. absurd (not_failed profile is.file.path is.file.bytes path (Err refusal) is.loads (ap Err failed))) (λ other. walked)
-    where
-      walked : Walked profile before after old (Err refusal)
-      walked =
-          let choice = chosen_seen before.told search on.saw in
-          record {
-            given = choice.given;
-            told = choice.told_is;
-            agrees = on.keeps choice.given choice.agrees;
-            asked = paths search;
-            walks = on.back choice.given (refused (paths search) refusal) choice.agrees (unread is.file is.at is.loads);
-            counted = subst (λ n. IsCounted before after (length old.asked) n) (sym (count_paths search)) (subst (λ o. IsCounted before o (length old.asked) (length search.asked)) (sym is.same) on.counted);
-          }
+  walk_unread after refusal is =
+      let own = own_refusal profile is.file.path is.file.bytes (Err refusal) refusal is.loads refl in
+      let choice = chosen_seen before.told search on.sound on.saw in
+      let walked : Walked profile before after old (Err refusal) = record {
+        given = choice.given;
+        short = choice.short;
+        asked = paths search;
+        told = subst (λ (f : Option ℕ). GivesTold before.told f choice.given) (sym (own.failing (paths search))) choice.told_is;
+        agrees = on.keeps choice.given choice.agrees;
+        walks = on.back choice.given (refused (paths search) refusal) choice.agrees (unread is.file is.at is.loads);
+        last = own.last (paths search);
+        counted = subst (λ n. IsCounted before after (length old.asked) n) (sym (count_paths search)) (subst (λ o. IsCounted before o (length old.asked) (length search.asked)) (sym is.same) on.counted);
+      } in
+      unless_memory refusal (RoseAt refusal before.faults after.faults × Walked profile before after old (Err refusal)) (own.rose before.faults after.faults, walked)
 
-  rose_failed : (after : Outside) (refusal : PackFault) (path : Path) → refusal ≡ fault.FolderFailed path → RoseAt refusal now.faults after.faults → RoseAt (fault.FolderFailed path) now.faults after.faults
-  rose_failed after refusal path is rose = subst (λ r. RoseAt r now.faults after.faults) is rose
+  walk_stopped : (after : Outside) (refusal : PackFault) → Stopped profile (length done) now after search refusal → WalkAnswer profile before after old (Err refusal)
+  walk_stopped after refusal is =
+      let refuses = is.refuses in
+      let walked : Walked profile before after old (Err refusal) = record {
+        given = refuses.given;
+        short = refuses.short;
+        asked = refuses.asked;
+        told = subst (λ o. GivesTold o (failing_at refusal refuses.asked) refuses.given) on.stays.held refuses.told;
+        agrees = on.keeps refuses.given refuses.agrees;
+        walks = on.back refuses.given (refused refuses.asked refusal) refuses.agrees (stopped is.file is.bound is.at is.loads refuses.is);
+        last = refuses.last;
+        counted = counted_then before now after (length old.asked) (length search.asked) (length refuses.asked) on.stays on.counted refuses.counted;
+      } in
+      unless_memory refusal (RoseAt refusal before.faults after.faults × Walked profile before after old (Err refusal)) (rose_later refusal before now after on.stays is.rose, walked)
 
-  walk_stopped : (after : Outside) (refusal : PackFault) → (refusal ≡ fault.NoMemory → ⊥) → Stopped profile (length done) now after search refusal → WalkAnswer profile before after old (Err refusal)
-  walk_stopped after refusal memory is = refusal_by profile before after old refusal failed walked
-    where
-      counted : IsCounted before after (length old.asked) (length is.refuses.asked)
-      counted = counted_then before now after (length old.asked) (length search.asked) (length is.refuses.asked) on.stays on.counted is.refuses.counted
-
-      walked : ((path : Path) → refusal ≡ fault.FolderFailed path → ⊥) → Walked profile before after old (Err refusal)
-      walked other = record {
-        given = is.refuses.given;
-        told = subst (λ o. GivesTold o is.refuses.given) on.stays.held is.refuses.told;
-        agrees = on.keeps is.refuses.given is.refuses.agrees;
-        asked = is.refuses.asked;
-        walks = on.back is.refuses.given (refused is.refuses.asked refusal) is.refuses.agrees (stopped is.file is.bound is.at is.loads (ended_by refusal (followed_of is.refuses.given is.bound search) is.refuses.asked other memory is.refuses.explains));
-        counted = counted;
-      }
-
-      last_of_outcome : (path : Path) → refusal ≡ fault.FolderFailed path → (outcome : Outcome) → Walks is.refuses.given profile old [] outcome → IsLastAsked path is.refuses.asked outcome.asked
-      last_of_outcome path same outcome walks =
-          let explains : IsLastAsked path is.refuses.asked (asked_of (followed_of is.refuses.given is.bound search)) = subst (λ r. Explains r (followed_of is.refuses.given is.bound search) is.refuses.asked) same is.refuses.explains in
-          record {
-            earlier = explains.earlier;
-            last = explains.last;
-            first = front_then is.refuses.asked (asked_of (followed_of is.refuses.given is.bound search)) outcome.asked explains.first
-                (next_asked is.refuses.given profile search done is.file is.at is.bound is.loads outcome (on.forth is.refuses.given outcome is.refuses.agrees walks));
-          }
-
-      failed : (path : Path) → refusal ≡ fault.FolderFailed path → FailedWalk profile before after old path
-      failed path same = record {
-        rose = (let rose = rose_failed after refusal path same is.rose in let x = on.stays.faults in omega arith);
-        given = is.refuses.given;
-        told = subst (λ o. GivesTold o is.refuses.given) on.stays.held is.refuses.told;
-        agrees = on.keeps is.refuses.given is.refuses.agrees;
-        asked = is.refuses.asked;
-        first = last_of_outcome path same;
-        counted = counted;
-      }
-
-  is_memory : (refusal : PackFault) → (refusal ≡ fault.NoMemory) ⊎ (refusal ≡ fault.NoMemory → ⊥)
-  is_memory fault.NoMemory = inl refl
-  is_memory (fault.FolderFailed path) = inr (λ is. cc)
-  is_memory fault.BadManifest = inr (λ is. cc)
-  is_memory (fault.NoFile path) = inr (λ is. cc)
-  is_memory (fault.TooLong path) = inr (λ is. cc)
-  is_memory (fault.TooManyFiles count) = inr (λ is. cc)
-  is_memory (fault.Text path refusal line) = inr (λ is. cc)
-  is_memory (fault.Read path refusal line) = inr (λ is. cc)
-  is_memory (fault.Scope path refusal line) = inr (λ is. cc)
-
-  pub walk_refused : (after : Outside) (new : Search) (refusal : PackFault) → TurnAnswer profile (length done) now after search new (Err refusal) → WalkAnswer profile before after old (Err refusal)
-  walk_refused after new refusal (inl memory) = subst (λ r. WalkRefusal profile before after old r) (sym memory) tt
+  walk_refused : (after : Outside) (new : Search) (refusal : PackFault) → TurnAnswer profile (length done) now after search new (Err refusal) → WalkAnswer profile before after old (Err refusal)
+  walk_refused after new refusal (inl memory) = for_memory refusal (RoseAt refusal before.faults after.faults × Walked profile before after old (Err refusal)) memory
   walk_refused after new refusal (inr (inl is)) = walk_unread after refusal is
-  walk_refused after new refusal (inr (inr is)) = by (is_memory refusal)
-    where
-      by : (refusal ≡ fault.NoMemory) ⊎ (refusal ≡ fault.NoMemory → ⊥) → WalkAnswer profile before after old (Err refusal)
-      by (inl memory) = subst (λ r. WalkRefusal profile before after old r) (sym memory) tt
-      by (inr other) = walk_stopped after refusal other is
+  walk_refused after new refusal (inr (inr is)) = walk_stopped after refusal is
 
   pub walk_refused_at : (number : ℕ) → number ≡ length done → (after : Outside) (new : Search) (refusal : PackFault) → TurnAnswer profile number now after search new (Err refusal) → WalkAnswer profile before after old (Err refusal)
   walk_refused_at number is after new refusal answer = walk_refused after new refusal (subst (λ n. TurnAnswer profile n now after search new (Err refusal)) is answer)

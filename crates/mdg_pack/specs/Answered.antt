@@ -1,48 +1,51 @@
 -- What the walk of a folder answers.
-use Rattle.std.specs.Prelude.{◌≡◌, ◌⊎◌, ℕ, ◌+◌, ◌-◌, ◌^◌, ◌<◌, List, length, Some, slice_get, Result, Ok, Err}
-use Rattle.mdg_pack.specs.Finding.{Given}
+use Rattle.std.specs.Prelude.{◌≡◌, ◌⊎◌, ℕ, ◌+◌, ◌-◌, ◌^◌, ◌<◌, List, [], ◌∷◌, ◌++◌, length, Option, Some, None, Result, Ok, Err}
 use Rattle.mdg_pack.specs.Paths.{Path}
+use Rattle.mdg_pack.specs.Reads.{Given, AreShort}
 use Rattle.mdg_pack.specs.Walk.{Outcome, Walk, WalkBy}
 use Rattle.mdg_pack.specs.declared.fault.PackFault.{PackFault}
 use Rattle.mdg_pack.specs.declared.fault.PackFault.TheVariants as fault
 use Rattle.mdg_pack.specs.declared.walk.Package.{Package}
 use Rattle.mdg_port.specs.Held.{Held}
-use Rattle.mdg_port.specs.declared.folder.Fetched.{Fetched}
 use Rattle.mdg_profile.specs.declared.entry.Profile.{Profile}
 
--- neither a failed read nor want of memory
+-- it isn't want of memory
 abbrev pub IsDecided : Result Package PackFault → Type 0
 IsDecided (Ok files) = Unit {0}
 IsDecided (Err fault.NoMemory) = ⊥
-IsDecided (Err (fault.FolderFailed path)) = ⊥
 IsDecided (Err refusal) = Unit {0}
 
--- The walk of what the folder holds has this result, and each path that it asks was read, and read once.
+-- the number of the read that failed, which is the last one, where the answer is that one failed
+abbrev pub failing_of : Result Package PackFault → List Path → Option ℕ
+failing_of (Err (fault.FolderFailed path)) asked = Some (length asked - 1)
+failing_of result asked = None
+
+-- the path of a failed read is the last one that is asked
+abbrev pub TellsLast : Result Package PackFault → List Path → Type 0
+TellsLast (Err (fault.FolderFailed path)) asked = (earlier : List Path) × (asked ≡ earlier ++ path ∷ [])
+TellsLast result asked = Unit {0}
+
+-- The walk of what the folder holds has this result, where the last read fails if the result is that one failed. As
+-- many reads were made as it asks paths.
 pub record IsWalked (held : Held) (profile : Profile) (before after : ℕ) (result : Result Package PackFault) : Type 0 where
   pub asked : List Path
-  pub walk : Walk held profile (record { asked = asked; result = result })
+  pub walk : Walk held profile (failing_of result asked) (record { asked = asked; result = result })
+  pub last : TellsLast result asked
   pub counted : after < 2 ^ 64 - 1 → after ≡ before + length asked
 
 -- The walk has this result for something that reads of the paths may give.
 pub record IsSomeWalk (profile : Profile) (result : Result Package PackFault) : Type 0 where
-  pub read : Fetched
   pub given : Given
+  pub short : AreShort given
   pub asked : List Path
-  pub walk : WalkBy read given profile (record { asked = asked; result = result })
-
--- the path was the last one of the reads between these two counts
-pub record IsLastRead (path : Path) (asked : List Path) (before after : ℕ) : Type 0 where
-  pub some : before < after
-  pub at : slice_get asked (after - before - 1) ≡ Some path
-
--- The path of a failed read is the one that the walk asks with that number.
-abbrev pub TellsLastRead : Held → Profile → ℕ → ℕ → Path → Type 0
-TellsLastRead held profile before after path = (outcome : Outcome) → Walk held profile outcome → after < 2 ^ 64 - 1 → IsLastRead path outcome.asked before after
+  pub walk : WalkBy given profile (record { asked = asked; result = result })
+  pub last : TellsLast result asked
 
 -- it is the result, unless memory is refused
 abbrev pub IsUnlessMemory : Result Package PackFault → Result Package PackFault → Type 0
 IsUnlessMemory result wanted = (result ≡ wanted) ⊎ (result ≡ Err fault.NoMemory)
 
--- a walk has at most one outcome
+-- a walk has at most one outcome, whichever read fails, if one does
 abbrev pub HasOneOutcome : Type 0
-HasOneOutcome = (held : Held) (profile : Profile) (one other : Outcome) → Walk held profile one → Walk held profile other → one ≡ other
+HasOneOutcome = (held : Held) (profile : Profile) (failing : Option ℕ) (one other : Outcome)
+    → Walk held profile failing one → Walk held profile failing other → one ≡ other

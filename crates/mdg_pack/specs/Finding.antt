@@ -3,21 +3,17 @@ use Rattle.std.specs.Prelude.{◌≡◌, ℕ, ◌-◌, ◌<◌, Bool, nat_lt, if
 use Rattle.std.specs.Str.{bytes_eq}
 use Rattle.mdg_base.specs.declared.number.FileId.{FileId}
 use Rattle.mdg_pack.specs.Paths.{Path, named, folder_of}
+use Rattle.mdg_pack.specs.Reads.{Reading, gives, fails, Given}
 use Rattle.mdg_pack.specs.declared.fault.PackFault.{PackFault}
 use Rattle.mdg_pack.specs.declared.fault.PackFault.TheVariants as fault
 use Rattle.mdg_pack.specs.declared.search.Asked.{Asked}
 use Rattle.mdg_pack.specs.declared.search.Found.{Found}
 use Rattle.mdg_pack.specs.declared.search.Search.{Search}
-use Rattle.mdg_port.specs.declared.folder.Fetched.{Fetched}
 use Rattle.mdg_port.specs.declared.folder.Fetched.TheVariants.{Absent, TooLong, Bytes}
 use Rattle.mdg_scope.specs.declared.bound.Bound.{Bound}
 use Rattle.mdg_scope.specs.declared.bound.Require.{Require}
 use Rattle.mdg_scope.specs.declared.bound.Goal.{Goal}
 use Rattle.mdg_scope.specs.declared.bound.Goal.TheVariants.{Bare, Path as ToFind, File}
-
--- what a read of each path gives
-abbrev pub Given : Type 0
-Given = Path → Fetched
 
 -- nothing was asked
 abbrev pub no_search : Search
@@ -69,15 +65,16 @@ numbered search path bytes =
     else ends (paths search ++ path ∷ []) (fault.TooManyFiles 257)
 
 -- a path that is read
-abbrev pub asked_by : Fetched → Search → Path → Step (Option ℕ)
-asked_by Absent search path = goes None (with_absent search path)
-asked_by TooLong search path = ends (paths search ++ path ∷ []) (fault.TooLong path)
-asked_by (Bytes bytes) search path = numbered search path bytes
+abbrev pub asked_by : Reading → Search → Path → Step (Option ℕ)
+asked_by (gives Absent) search path = goes None (with_absent search path)
+asked_by (gives TooLong) search path = ends (paths search ++ path ∷ []) (fault.TooLong path)
+asked_by (gives (Bytes bytes)) search path = numbered search path bytes
+asked_by fails search path = ends (paths search ++ path ∷ []) (fault.FolderFailed path)
 
--- what was seen at a path counts, and else it is read
+-- what was seen at a path counts, and else it is read: the next read
 abbrev pub looked_by : Option (Option ℕ) → Given → Search → Path → Step (Option ℕ)
 looked_by (Some file) given search path = goes file search
-looked_by None given search path = asked_by (given path) search path
+looked_by None given search path = asked_by (given (length search.asked) path) search path
 
 -- the file at a path, where there is one
 unfoldable pub looked : Given → Search → Path → Step (Option ℕ)

@@ -1,17 +1,18 @@
 -- What the calls of the walk answer.
 use Rattle.std.specs.Prelude.{◌≡◌, ◌⊎◌, ℕ, ◌+◌, ◌-◌, ◌^◌, ◌<◌, ◌≤◌, List, [], ◌∷◌, ◌++◌, length, Option, Some, None, IfSome, slice_get, Result, Ok, Err}
-use Rattle.mdg_pack.specs.Finding.{Given, paths, followed_of}
+use Rattle.mdg_pack.specs.Answered.{failing_of, TellsLast}
+use Rattle.mdg_pack.specs.Finding.{paths, followed_of}
 use Rattle.mdg_pack.specs.Loading.{LoadsFile}
-use Rattle.mdg_pack.specs.Manifest.{Enters, manifest}
-use Rattle.mdg_pack.specs.Outside.{Outside, Agrees, IsSound, Saw, GivesTold, IsCounted, IsLastAsked, Did, Refuses, RoseAt, Stays}
+use Rattle.mdg_pack.specs.Manifest.{Enters}
+use Rattle.mdg_pack.specs.Outside.{Outside, Agrees, IsSound, Saw, GivesTold, IsCounted, Did, Refuses, RoseAt, Stays, UnlessMemory, TellsLastOf, failing_at}
 use Rattle.mdg_pack.specs.Paths.{Path}
-use Rattle.mdg_pack.specs.Walk.{Outcome, Walks, Starts, WalkBy, Walk, reads_of, with_required}
+use Rattle.mdg_pack.specs.Reads.{Given, AreShort, reads_of}
+use Rattle.mdg_pack.specs.Walk.{Outcome, Walks, Starts, WalkBy, with_required}
 use Rattle.mdg_pack.specs.declared.fault.PackFault.{PackFault}
 use Rattle.mdg_pack.specs.declared.fault.PackFault.TheVariants as fault
 use Rattle.mdg_pack.specs.declared.search.Found.{Found}
 use Rattle.mdg_pack.specs.declared.search.Search.{Search}
 use Rattle.mdg_pack.specs.declared.walk.Package.{Package}
-use Rattle.mdg_port.specs.Causes.{Rose}
 use Rattle.mdg_port.specs.declared.folder.Fetched.{Fetched}
 use Rattle.mdg_profile.specs.declared.entry.Profile.{Profile}
 use Rattle.mdg_scope.specs.declared.bound.Bound.{Bound}
@@ -51,69 +52,54 @@ TurnAnswer profile number before after old new (Err refusal) = (refusal ≡ faul
 abbrev pub outcome_of : List Path → Result Package PackFault → Outcome
 outcome_of asked result = record { asked = asked; result = result }
 
+-- the number of the read that failed, counted from that of the manifest, where a read failed
+abbrev pub failing_in : Result Package PackFault → List Path → Option ℕ
+failing_in (Ok whole) asked = None
+failing_in (Err refusal) asked = failing_at refusal asked
+
+abbrev pub TellsLastIn : Result Package PackFault → List Path → Type 0
+TellsLastIn (Ok whole) asked = Unit {0}
+TellsLastIn (Err refusal) asked = TellsLastOf refusal asked
+
 -- The files on from a search have this outcome, for reads that give what the search saw.
 pub record Walked (profile : Profile) (before after : Outside) (old : Search) (result : Result Package PackFault) : Type 0 where
   pub given : Given
-  pub told : GivesTold before.told given
-  pub agrees : Agrees given old
+  pub short : AreShort given
   pub asked : List Path
+  pub told : GivesTold before.told (failing_in result asked) given
+  pub agrees : Agrees given old
   pub walks : Walks given profile old [] (outcome_of asked result)
+  pub last : TellsLastIn result asked
   pub counted : IsCounted before after (length old.asked) (length asked)
-
--- A read failed. What was asked up to it is what each outcome asks first.
-pub record FailedWalk (profile : Profile) (before after : Outside) (old : Search) (path : Path) : Type 0 where
-  pub rose : Rose before.faults after.faults
-  pub given : Given
-  pub told : GivesTold before.told given
-  pub agrees : Agrees given old
-  pub asked : List Path
-  pub first : (outcome : Outcome) → Walks given profile old [] outcome → IsLastAsked path asked outcome.asked
-  pub counted : IsCounted before after (length old.asked) (length asked)
-
-abbrev pub WalkRefusal : Profile → Outside → Outside → Search → PackFault → Type 0
-WalkRefusal profile before after old fault.NoMemory = Unit {0}
-WalkRefusal profile before after old (fault.FolderFailed path) = FailedWalk profile before after old path
-WalkRefusal profile before after old refusal = Walked profile before after old (Err refusal)
 
 abbrev pub WalkAnswer : Profile → Outside → Outside → Search → Result (List Bound) PackFault → Type 0
 WalkAnswer profile before after old (Ok files) = Walked profile before after old (Ok (record { files = files }))
-WalkAnswer profile before after old (Err refusal) = WalkRefusal profile before after old refusal
+WalkAnswer profile before after old (Err refusal) =
+    UnlessMemory refusal (RoseAt refusal before.faults after.faults × Walked profile before after old (Err refusal))
 
--- What is left of the walk has the outcomes of the whole.
+-- An outcome of what is left of the walk is one of the whole.
 pub record WalksOn (profile : Profile) (before now : Outside) (old search : Search) (done : List Bound) : Type 0 where
   pub stays : Stays before now
   pub sound : IsSound search
   pub saw : Saw before.told search
   pub keeps : (given : Given) → Agrees given search → Agrees given old
   pub back : (given : Given) (outcome : Outcome) → Agrees given search → Walks given profile search done outcome → Walks given profile old [] outcome
-  pub forth : (given : Given) (outcome : Outcome) → Agrees given search → Walks given profile old [] outcome → Walks given profile search done outcome
   pub counted : IsCounted before now (length old.asked) (length search.asked)
 
 -- The package from the search for its entry on has this outcome, for reads that give what the folder holds, where that is told.
 pub record Started (profile : Profile) (entry : List Path) (before after : Outside) (result : Result Package PackFault) : Type 0 where
   pub given : Given
-  pub told : GivesTold before.told given
+  pub short : AreShort given
   pub asked : List Path
+  pub told : GivesTold before.told (failing_in result asked) given
   pub starts : Starts given profile entry (outcome_of asked result)
+  pub last : TellsLastIn result asked
   pub counted : IsCounted before after 0 (length asked)
-
--- A read failed. What was asked up to it is what each outcome asks first.
-pub record FailedStart (profile : Profile) (entry : List Path) (before after : Outside) (path : Path) : Type 0 where
-  pub rose : Rose before.faults after.faults
-  pub given : Given
-  pub told : GivesTold before.told given
-  pub asked : List Path
-  pub first : (outcome : Outcome) → Starts given profile entry outcome → IsLastAsked path asked outcome.asked
-  pub counted : IsCounted before after 0 (length asked)
-
-abbrev pub StartRefusal : Profile → List Path → Outside → Outside → PackFault → Type 0
-StartRefusal profile entry before after fault.NoMemory = Unit {0}
-StartRefusal profile entry before after (fault.FolderFailed path) = FailedStart profile entry before after path
-StartRefusal profile entry before after refusal = Started profile entry before after (Err refusal)
 
 abbrev pub StartAnswer : Profile → List Path → Outside → Outside → Result (List Bound) PackFault → Type 0
 StartAnswer profile entry before after (Ok files) = Started profile entry before after (Ok (record { files = files }))
-StartAnswer profile entry before after (Err refusal) = StartRefusal profile entry before after refusal
+StartAnswer profile entry before after (Err refusal) =
+    UnlessMemory refusal (RoseAt refusal before.faults after.faults × Started profile entry before after (Err refusal))
 
 -- the candidates for the entry or their refusal, unless memory was refused
 abbrev pub EntryAnswer : Fetched → Result (List Path) PackFault → Type 0
@@ -124,7 +110,8 @@ EntryAnswer read (Err refusal) = (refusal ≡ fault.NoMemory) ⊎ Enters read (E
 pub record Entered (profile : Profile) (read : Fetched) (before after : Outside) (refusal : PackFault) : Type 0 where
   pub entry : List Path
   pub enters : Enters read (Ok entry)
-  pub refused : StartRefusal profile entry before after refusal
+  pub rose : RoseAt refusal before.faults after.faults
+  pub started : Started profile entry before after (Err refusal)
 
 pub record EnteredWhole (profile : Profile) (read : Fetched) (before after : Outside) (whole : Package) : Type 0 where
   pub entry : List Path
@@ -137,26 +124,15 @@ EnteredAnswer profile read before after (Err refusal) = (refusal ≡ fault.NoMem
 
 -- The walk has this outcome, for reads that give what the folder holds, where that is told.
 pub record Gathered (profile : Profile) (before after : Outside) (result : Result Package PackFault) : Type 0 where
-  pub read : Fetched
-  pub read_told : IfSome before.told (λ held. read ≡ reads_of held manifest)
   pub given : Given
-  pub told : GivesTold before.told given
+  pub short : AreShort given
   pub asked : List Path
-  pub walk : WalkBy read given profile (outcome_of asked result)
+  pub told : IfSome before.told (λ held. given ≡ reads_of held (failing_of result asked))
+  pub walk : WalkBy given profile (outcome_of asked result)
+  pub last : TellsLast result asked
   pub counted : IsCounted before after 0 (length asked)
-
--- A read failed. What was asked up to it is what the walk asks first.
-pub record FailedGather (profile : Profile) (before after : Outside) (path : Path) : Type 0 where
-  pub rose : Rose before.faults after.faults
-  pub asked : List Path
-  pub first : IfSome before.told (λ held. (outcome : Outcome) → Walk held profile outcome → IsLastAsked path asked outcome.asked)
-  pub counted : IsCounted before after 0 (length asked)
-
-abbrev pub GatherRefusal : Profile → Outside → Outside → PackFault → Type 0
-GatherRefusal profile before after fault.NoMemory = Unit {0}
-GatherRefusal profile before after (fault.FolderFailed path) = FailedGather profile before after path
-GatherRefusal profile before after refusal = Gathered profile before after (Err refusal)
 
 abbrev pub GatherAnswer : Profile → Outside → Outside → Result Package PackFault → Type 0
 GatherAnswer profile before after (Ok whole) = Gathered profile before after (Ok whole)
-GatherAnswer profile before after (Err refusal) = GatherRefusal profile before after refusal
+GatherAnswer profile before after (Err refusal) =
+    UnlessMemory refusal (RoseAt refusal before.faults after.faults × Gathered profile before after (Err refusal))

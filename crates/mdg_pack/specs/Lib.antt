@@ -1,4 +1,5 @@
 pub mod Paths
+pub mod Reads
 pub mod Manifest
 pub mod Finding
 pub mod Loading
@@ -6,6 +7,6 @@ pub mod Walk
 pub mod Outside
 pub mod Loaded
 pub mod Entry
-pub mod Gathering
 pub mod Answered
+pub mod Gathering
 pub mod Packaged

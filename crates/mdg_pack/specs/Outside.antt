@@ -1,10 +1,11 @@
 -- What a call of the walk did, by what the folder tells before and after it.
 use Rattle.std.specs.Prelude.{◌≡◌, ℕ, ◌+◌, ◌-◌, ◌^◌, ◌<◌, ◌≤◌, List, [], ◌∷◌, ◌++◌, length, Option, Some, None, IfSome, slice_get, Result, Ok, Err}
-use Rattle.mdg_pack.specs.Finding.{Given, Step, goes, ends, paths, seen, most_files, with_file}
+use Rattle.mdg_pack.specs.Finding.{Step, goes, ends, paths, most_files, with_file}
 use Rattle.mdg_pack.specs.Paths.{Path}
-use Rattle.mdg_pack.specs.Walk.{reads_of, most_bytes}
+use Rattle.mdg_pack.specs.Reads.{Given, gives, later, reads_of, most_bytes, AreShort}
 use Rattle.mdg_pack.specs.declared.fault.PackFault.{PackFault}
 use Rattle.mdg_pack.specs.declared.fault.PackFault.TheVariants as fault
+use Rattle.mdg_pack.specs.declared.search.Asked.{Asked}
 use Rattle.mdg_pack.specs.declared.search.Found.{Found}
 use Rattle.mdg_pack.specs.declared.search.Search.{Search}
 use Rattle.mdg_port.specs.Causes.{Rose}
@@ -32,33 +33,35 @@ gave search (Some number) = bytes_of (slice_get search.files number)
 
 -- these reads give what the search saw
 pub record Agrees (given : Given) (search : Search) : Type 0 where
-  pub at : (path : Path) (file : Option ℕ) → seen search path ≡ Some file → given path ≡ gave search file
+  pub at : (number : ℕ) (one : Asked) → slice_get search.asked number ≡ Some one → given number one.path ≡ gives (gave search one.file)
 
 -- numbers are those of files, and the limits are kept
 pub record IsSound (search : Search) : Type 0 where
   pub few : length search.files ≤ most_files
-  pub numbers : (path : Path) (number : ℕ) → seen search path ≡ Some (Some number) → number < length search.files
+  pub numbers : (place : ℕ) (one : Asked) (number : ℕ) → slice_get search.asked place ≡ Some one → one.file ≡ Some number → number < length search.files
   pub short : (number : ℕ) (file : Found) → slice_get search.files number ≡ Some file → length file.bytes ≤ most_bytes
 
 -- the search saw what the folder holds, where that is told
 abbrev pub Saw : Option Held → Search → Type 0
-Saw told search = IfSome told (λ held. Agrees (reads_of held) search)
+Saw told search = IfSome told (λ held. Agrees (later (reads_of held None)) search)
 
--- these reads give what the folder holds, where that is told
-abbrev pub GivesTold : Option Held → Given → Type 0
-GivesTold told given = IfSome told (λ held. given ≡ reads_of held)
+-- These reads after that of the manifest give what the folder holds, where that is told, but for the one that fails.
+abbrev pub GivesTold : Option Held → Option ℕ → Given → Type 0
+GivesTold told failing given = IfSome told (λ held. given ≡ later (reads_of held failing))
 
 -- so many paths more were read, where that is told
 abbrev pub IsCounted : Outside → Outside → ℕ → ℕ → Type 0
 IsCounted before after old new = IfSome before.told (λ held. after.reads < 2 ^ 64 - 1 → (before.reads ≤ after.reads) × (after.reads + old ≡ before.reads + new))
 
-abbrev pub IsFront : List Path → List Path → Type 0
-IsFront front whole = (rest : List Path) × (whole ≡ front ++ rest)
+-- The number of the read that failed, counted from that of the manifest, where a read failed: it is the last of these.
+abbrev pub failing_at : PackFault → List Path → Option ℕ
+failing_at (fault.FolderFailed path) asked = Some (length asked)
+failing_at refusal asked = None
 
--- the paths that a step asked
-abbrev pub asked_of : {A : Type 0} → Step A → List Path
-asked_of (goes value search) = paths search
-asked_of (ends asked refusal) = asked
+-- the path of a failed read is the last of these
+abbrev pub TellsLastOf : PackFault → List Path → Type 0
+TellsLastOf (fault.FolderFailed path) asked = (earlier : List Path) × (asked ≡ earlier ++ path ∷ [])
+TellsLastOf refusal asked = Unit {0}
 
 -- The call did this step: its value, and the search as it is now.
 pub record Did {A : Type 0} (run : Given → Step A) (before after : Outside) (old new : Search) (value : A) : Type 0 where
@@ -69,25 +72,15 @@ pub record Did {A : Type 0} (run : Given → Step A) (before after : Outside) (o
   pub longer : length old.files ≤ length new.files
   pub counted : IsCounted before after (length old.asked) (length new.asked)
 
--- The failing path is the last one that is asked, and the step asks all of these first.
-pub record IsLastAsked (path : Path) (asked steps : List Path) : Type 0 where
-  pub earlier : List Path
-  pub last : asked ≡ earlier ++ path ∷ []
-  pub first : IsFront asked steps
-
--- why the step ended
-abbrev pub Explains : {A : Type 0} → PackFault → Step A → List Path → Type 0
-Explains (fault.FolderFailed path) step asked = IsLastAsked path asked (asked_of step)
-Explains fault.NoMemory step asked = Unit {0}
-Explains refusal step asked = step ≡ ends asked refusal
-
 -- The step was refused after these paths were asked, for what the reads gave.
 pub record Refuses {A : Type 0} (run : Given → Step A) (before after : Outside) (old : Search) (refusal : PackFault) : Type 0 where
   pub given : Given
-  pub told : GivesTold before.told given
-  pub agrees : Agrees given old
+  pub short : AreShort given
   pub asked : List Path
-  pub explains : Explains refusal (run given) asked
+  pub told : GivesTold before.told (failing_at refusal asked) given
+  pub agrees : Agrees given old
+  pub is : run given ≡ ends asked refusal
+  pub last : TellsLastOf refusal asked
   pub counted : IsCounted before after (length old.asked) (length asked)
 
 -- the folder failed only where its count of faults rose
@@ -96,9 +89,12 @@ RoseAt (fault.FolderFailed path) before after = Rose before after
 RoseAt refusal before after = Unit {0}
 
 -- want of memory says nothing
+abbrev pub UnlessMemory : PackFault → Type 0 → Type 0
+UnlessMemory fault.NoMemory Cause = Unit {0}
+UnlessMemory refusal Cause = Cause
+
 abbrev pub RefusesUnlessMemory : {A : Type 0} → (Given → Step A) → Outside → Outside → Search → PackFault → Type 0
-RefusesUnlessMemory run before after old fault.NoMemory = Unit {0}
-RefusesUnlessMemory run before after old refusal = RoseAt refusal before.faults after.faults × Refuses run before after old refusal
+RefusesUnlessMemory run before after old refusal = UnlessMemory refusal (RoseAt refusal before.faults after.faults × Refuses run before after old refusal)
 
 abbrev pub Answers : {A : Type 0} → (Given → Step A) → Outside → Outside → Search → Search → Result A PackFault → Type 0
 Answers run before after old new (Ok value) = Did run before after old new value

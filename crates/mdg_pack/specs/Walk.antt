@@ -1,25 +1,22 @@
 -- The walk of a package.
-use Rattle.std.specs.Prelude.{◌≡◌, ℕ, List, [], ◌∷◌, ◌++◌, length, Some, None, slice_get, Result, Ok, Err}
-use Rattle.mdg_pack.specs.Finding.{Given, Step, goes, ends, no_search, paths, found, followed_of}
+use Rattle.std.specs.Prelude.{◌≡◌, ℕ, Option, List, [], ◌∷◌, ◌++◌, length, Some, None, slice_get, Result, Ok, Err}
+use Rattle.mdg_pack.specs.Finding.{Step, goes, ends, no_search, paths, found, followed_of}
 use Rattle.mdg_pack.specs.Loading.{LoadsFile}
 use Rattle.mdg_pack.specs.Manifest.{Enters, manifest}
 use Rattle.mdg_pack.specs.Paths.{Path}
+use Rattle.mdg_pack.specs.Reads.{Reading, gives, fails, Given, later, reads_of}
 use Rattle.mdg_pack.specs.declared.fault.PackFault.{PackFault}
+use Rattle.mdg_pack.specs.declared.fault.PackFault.TheVariants as fault
 use Rattle.mdg_pack.specs.declared.search.Found.{Found}
 use Rattle.mdg_pack.specs.declared.search.Search.{Search}
 use Rattle.mdg_pack.specs.declared.walk.Package.{Package}
 use Rattle.mdg_port.specs.Held.{Held}
-use Rattle.mdg_port.specs.Reads.{fetched}
 use Rattle.mdg_port.specs.declared.folder.Fetched.{Fetched}
 use Rattle.mdg_profile.specs.declared.entry.Profile.{Profile}
 use Rattle.mdg_scope.specs.declared.bound.Bound.{Bound}
 use Rattle.mdg_scope.specs.declared.bound.Require.{Require}
 
--- the most bytes of a file
-abbrev pub most_bytes : ℕ
-most_bytes = 1048576
-
--- The paths that a walk asks, in order, and the package or the first refusal.
+-- The paths that a walk asks, in order, and the package, the first refusal or the failed read.
 pub record Outcome : Type 0 where
   pub asked : List Path
   pub result : Result Package PackFault
@@ -58,16 +55,15 @@ pub data Starts (given : Given) (profile : Profile) (entry : List Path) : Outcom
 abbrev pub after_manifest : Outcome → Outcome
 after_manifest outcome = record { asked = manifest ∷ outcome.asked; result = outcome.result }
 
--- The walk where reads give this: of `package.json`, and of each path of a script.
-pub data WalkBy (read : Fetched) (given : Given) (profile : Profile) : Outcome → Type 0 where
-  no_manifest : {refusal : PackFault} → Enters read (Err refusal) → WalkBy read given profile (refused (manifest ∷ []) refusal)
-  manifested : (entry : List Path) {outcome : Outcome} → Enters read (Ok entry) → Starts given profile entry outcome
-      → WalkBy read given profile (after_manifest outcome)
+-- The walk where reads give this: the first one is that of `package.json`.
+pub data WalkBy (given : Given) (profile : Profile) : Outcome → Type 0 where
+  failed_manifest : given 0 manifest ≡ fails → WalkBy given profile (refused (manifest ∷ []) (fault.FolderFailed manifest))
+  no_manifest : (read : Fetched) {refusal : PackFault} → given 0 manifest ≡ gives read → Enters read (Err refusal)
+      → WalkBy given profile (refused (manifest ∷ []) refusal)
+  manifested : (read : Fetched) (entry : List Path) {outcome : Outcome} → given 0 manifest ≡ gives read → Enters read (Ok entry)
+      → Starts (later given) profile entry outcome → WalkBy given profile (after_manifest outcome)
 
--- what is read of a folder that holds this
-abbrev pub reads_of : Held → Given
-reads_of held path = fetched held path most_bytes
-
--- The walk of a package in a folder that holds this. There is never another outcome.
-abbrev pub Walk : Held → Profile → Outcome → Type 0
-Walk held profile outcome = WalkBy (reads_of held manifest) (reads_of held) profile outcome
+-- The walk of a package in a folder that holds this, in which the read with this number fails, or none does. There is
+-- never another outcome.
+abbrev pub Walk : Held → Profile → Option ℕ → Outcome → Type 0
+Walk held profile failing outcome = WalkBy (reads_of held failing) profile outcome

@@ -1,7 +1,7 @@
 //! The walk of a package.
-ghost use Rattle.std.specs.Prelude.{◌≡◌, ◌≤◌, ◌<◌, ◌-◌, ◌^◌, length, IfOk, IfSome, Err};
+ghost use Rattle.std.specs.Prelude.{◌≡◌, ◌≤◌, ◌<◌, length, IfOk, IfSome, None, Err};
 ghost use Rattle.mdg_pack.specs.Outside.{IsSound, Saw, Stays, outside};
-ghost use Rattle.mdg_pack.specs.Answered.{HasOneOutcome, IsDecided, IsSomeWalk, IsUnlessMemory, IsWalked, TellsLastRead};
+ghost use Rattle.mdg_pack.specs.Answered.{HasOneOutcome, IsDecided, IsSomeWalk, IsUnlessMemory, IsWalked};
 ghost use Rattle.mdg_pack.specs.Gathering.{EnteredAnswer, EntryAnswer, GatherAnswer, StartAnswer, TurnAnswer, WalkAnswer};
 ghost use Rattle.mdg_pack.specs.Packaged.{IsPackage};
 ghost use Rattle.mdg_pack.specs.Paths.{Path};
@@ -169,8 +169,8 @@ fn gathered<F: Folder>(
 /// (ECMA-262 5.1, 7), its tree (11 to 14) and its names, and then its relative requires are found in their order, each
 /// by its candidates. No path is read twice, none is outside the folder, and at most 1,048,576 bytes are asked for.
 ///
-/// Each refusal but `FolderFailed` and `NoMemory` comes exactly where the walk has it first. `FolderFailed` comes only
-/// where the folder's count of faults rose, with the path that was read last.
+/// Each refusal but `NoMemory` comes exactly where the walk has it first. A read that fails ends the walk with its path,
+/// as `FolderFailed`, which comes only where the folder's count of faults rose.
 pub fn gather<F: Folder>(
     alloc: Global,
     folder: &mut F,
@@ -179,7 +179,8 @@ pub fn gather<F: Folder>(
     ensures same { F.held folder.new ≡ F.held folder.old }
     ensures later { F.faults folder.old ≤ F.faults folder.new }
 
-    // The answer is that of the walk of what the folder holds, and each path that the walk asks was read once.
+    // The answer is that of the walk of what the folder holds, in which the last read fails if the answer is that one
+    // failed. As many reads were made as the walk asks paths.
     ensures walked { IfSome (F.held folder.old) (λ held. IsDecided result
         → IsWalked held profile.now (F.reads folder.old) (F.reads folder.new) result) }
 
@@ -190,18 +191,17 @@ pub fn gather<F: Folder>(
     ensures files { IfOk result (IsPackage profile.now) }
 
     // What the walk has is answered, where no read failed.
-    ensures answered { IfSome (F.held folder.old) (λ held. (outcome : Outcome) → Walk held profile.now outcome
+    ensures answered { IfSome (F.held folder.old) (λ held. (outcome : Outcome) → Walk held profile.now None outcome
         → Stood (F.faults folder.old) (F.faults folder.new) → IsUnlessMemory result outcome.result) }
 
     ensures fault { (path : Path) → result ≡ Err (PackFault.FolderFailed path)
         → Rose (F.faults folder.old) (F.faults folder.new) }
-    ensures fault_path { (path : Path) → result ≡ Err (PackFault.FolderFailed path)
-        → IfSome (F.held folder.old) (λ held. TellsLastRead held profile.now (F.reads folder.old) (F.reads folder.new) path) }
 {
     gathered(alloc, folder, profile)
 }
 
-/// The law of the walk: a folder that holds this has at most one outcome under a profile.
+/// The law of the walk: a folder that holds this has at most one outcome under a profile, whichever read fails, if one
+/// does.
 pub fn law_one_walk()
     ensures { HasOneOutcome }
 {}
