@@ -217,15 +217,18 @@ failed_made profile (Some held) = record {
 pub manifest_failed : (profile : Profile) (before after : Outside) (path : Path) → path ≡ manifest → Rose before.faults after.faults → OnSome before.told (after.reads ≡ one_more before.reads) → GatherAnswer profile before after (Err (fault.FolderFailed path))
 manifest_failed profile before after path is rose one =
     let made = failed_made profile before.told in
-    subst (λ p. GatherAnswer profile before after (Err (fault.FolderFailed p))) (sym is) (rose, record {
-      given = made.given;
-      short = made.short;
-      asked = manifest ∷ [];
-      told = made.is_told;
-      walk = made.walk;
-      last = ([], refl);
-      counted = counted_one before after 0 1 one (omega arith);
-    })
+    subst (λ p. GatherAnswer profile before after (Err (fault.FolderFailed p))) (sym is) (
+      rose,
+      record {
+        given = made.given;
+        short = made.short;
+        asked = manifest ∷ [];
+        told = made.is_told;
+        walk = made.walk;
+        last = ([], refl);
+        counted = counted_one before after 0 1 one (omega arith);
+      },
+    )
 
 -- ---- what the whole call says
 

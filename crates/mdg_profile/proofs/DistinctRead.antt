@@ -1,10 +1,10 @@
 -- The entries that are read speak of distinct names, since one that repeats a name is refused.
-use Rattle.std.proofs.Common.{ℕ, zero, suc, ◌≡◌, ◌<◌, ◌⊎◌, List, [], ◌∷◌, length, get_or, slice_get, Some, None, Option, IfOk, Result, Ok, Err, refl, inl, inr, arith}
+use Rattle.std.proofs.Common.{ℕ, zero, suc, ◌≡◌, ◌<◌, List, [], ◌∷◌, length, get_or, IfOk, Result, Ok, Err, refl, inl, inr, arith}
 use Rattle.std.specs.List.{AllZip}
 use Rattle.mdg_profile.specs.declared.entry.Entry.{Entry}
 use Rattle.mdg_profile.specs.declared.entry.Profile.{Profile}
 use Rattle.mdg_profile.specs.declared.refusal.ProfileRefusal.{ProfileRefusal}
-use Rattle.mdg_profile.specs.Distinct.{SameName, AreDistinct, HasDistinctEntries}
+use Rattle.mdg_profile.specs.Distinct.{AreDistinct, HasDistinctEntries}
 use Rattle.mdg_profile.specs.Entries.{IsEntry}
 use Rattle.mdg_profile.specs.Format.{IsEntryAt, RepeatsAt, IsFirst, HasCause}
 use Rattle.serde_json.specs.Data.{Data}

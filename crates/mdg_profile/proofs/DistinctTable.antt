@@ -1,5 +1,5 @@
 -- The default profile has one entry a name: its parts are compared one with another.
-use Rattle.std.proofs.Common.{ℕ, zero, suc, Bool, true, false, not, ◌&&◌, ◌≡◌, ◌+◌, ◌<◌, ◌≤◌, ◌⊎◌, List, [], ◌∷◌, ◌++◌, length, get_or, Option, Some, None, All, AllPairs, refl, sym, subst, arith, IfOk, Result, Ok, Err, true≢false, length-append}
+use Rattle.std.proofs.Common.{ℕ, zero, suc, Bool, true, false, not, ◌&&◌, ◌≡◌, List, [], ◌∷◌, ◌++◌, get_or, Option, Some, None, All, refl, sym, subst, arith, IfOk, Result, Ok, Err, true≢false}
 use Rattle.std.specs.List.{list_all}
 use Rattle.std.specs.Str.{bytes_eq}
 use Rattle.std.proofs.lemmas.Slice.Eq.{bytes_eq-Decides}
@@ -149,7 +149,7 @@ unfolding default_table
 table_distinct =
     let globals = joined listed_globals quiet_globals (each_differs listed_globals listed_differ) (each_differs quiet_globals quiet_differ) listed_quiet in
     let all_globals = joined (listed_globals ++ quiet_globals) active_globals globals (each_differs active_globals active_differ)
-      (both_apart listed_globals quiet_globals active_globals listed_active quiet_active) in
+    (both_apart listed_globals quiet_globals active_globals listed_active quiet_active) in
     joined (listed_globals ++ quiet_globals ++ active_globals) modules all_globals (each_differs modules modules_differ)
     (both_apart (listed_globals ++ quiet_globals) active_globals modules
     (both_apart listed_globals quiet_globals modules listed_modules quiet_modules) active_modules)
