@@ -4,8 +4,8 @@ use Rattle.std.specs.Prelude.{map, Result, Ok, Err, slice_get}
 use Rattle.std.specs.Str.{IsUtf8, chars}
 use native.Mathlib.Decide.{dec_lt}
 use Rattle.mdg_text.specs.Causes as causes
-use Rattle.mdg_text.specs.Answers.{Answers}
-use Rattle.mdg_text.specs.Walk.{Stop, bad, full, lex_text}
+use Rattle.mdg_text.specs.Lexer.{Answers}
+use Rattle.mdg_text.specs.Lexer.{Stop, bad, full, lex_text}
 use Rattle.mdg_text.specs.declared.token.Token.{Token}
 use Rattle.mdg_text.specs.declared.token.TextFault.{TextFault}
 use Rattle.mdg_text.specs.declared.token.TextFault.TheVariants as text

@@ -6,15 +6,15 @@ use Rattle.std.specs.Str.{encode_utf8_all}
 use Rattle.std.proofs.lemmas.Bool.{ltb-true, ltb-false}
 use Rattle.std.proofs.lemmas.List.{drop_more, drop_all}
 use Rattle.mdg_text.specs.Characters.{starts, is_line_end}
-use Rattle.mdg_text.specs.Lexing.{line_ends}
-use Rattle.mdg_text.specs.Lines.{marks_line_end, byte_line_ends}
+use Rattle.mdg_text.specs.Characters.{line_ends}
+use Rattle.mdg_text.specs.Lines.{ends_line_at, byte_line_ends}
 use Rattle.mdg_text.proofs.Steps.{decided, both_true, either_true, contradict}
 
 pub bytes_none : (bs : List ℕ) (i : ℕ) → length bs ≤ i → byte_line_ends (drop i bs) ≡ 0
 unfolding byte_line_ends
 bytes_none bs i h = rw (drop_all i bs h) refl
 
-pub bytes_more : (bs : List ℕ) (i : ℕ) → i < length bs → byte_line_ends (drop i bs) ≡ cond (marks_line_end (get_or bs i 0) (drop (i + 1) bs)) 1 0 + byte_line_ends (drop (i + 1) bs)
+pub bytes_more : (bs : List ℕ) (i : ℕ) → i < length bs → byte_line_ends (drop i bs) ≡ cond (ends_line_at (get_or bs i 0) (drop (i + 1) bs)) 1 0 + byte_line_ends (drop (i + 1) bs)
 unfolding byte_line_ends
 bytes_more bs i h = rw (drop_more bs i 0 h) refl
 

@@ -2,17 +2,17 @@
 use Rattle.std.proofs.Common.{◌≡◌, ℕ, zero, suc, ◌+◌, ◌-◌, ◌≤◌, ◌<◌, Bool, true, false, cond, not, ◌&&◌, ◌||◌, ◌==◌, inl, inr, List, [], ◌∷◌, ◌++◌, length, take, drop, get_or, arith, length-drop, refl, sym, ap, ◌∙◌}
 use Rattle.std.specs.Prelude.{Some, None}
 use Rattle.std.proofs.lemmas.List.{drop_more, drop_all, drop-drop}
-use Rattle.mdg_text.specs.Characters.{starts, is_line_end, is_hex_mark}
-use Rattle.mdg_text.specs.Lexing.{in_line}
-use Rattle.mdg_text.specs.Reading.{skip, after_close, after_script, before, numeral, hexadecimal, is_in, mark_of, marked}
+use Rattle.mdg_text.specs.Characters.{starts, is_line_end, is_hex_indicator}
+use Rattle.mdg_text.specs.Characters.{in_line}
+use Rattle.mdg_text.specs.Scanner.{skip, after_close, after_script, before, number, hexadecimal, is_in, punctuator_of, found_punctuator}
 use Rattle.std.specs.Str.{encode_utf8_all}
 use Rattle.std.proofs.lemmas.Bool.{le-leb, lt-leb}
 use Rattle.mdg_text.specs.declared.token.TokenKind.TheVariants as variant
-use Rattle.mdg_text.specs.Tables.{marks}
+use Rattle.mdg_text.specs.Punctuator.{punctuators}
 use Rattle.mdg_text.proofs.Steps.{decided}
 
 -- the first character, and none
-pub ruleset front = (drop_more, drop_all)
+pub ruleset first_character = (drop_more, drop_all)
 
 pub skip_on : (p : ℕ → Bool) (text : List ℕ) (i : ℕ) → i < length text → p (get_or text i 0) ≡ true → skip p (drop i text) ≡ skip p (drop (i + 1) text)
 unfolding skip
@@ -111,8 +111,8 @@ script_off (c ∷ d ∷ ds) h e = rw e refl
 
 pub ruleset scripts = (script_short, script_on, script_off)
 
-pub hex_at : (text : List ℕ) (i none : ℕ) → i < length text → get_or text i none ≡ 48 → starts is_hex_mark (drop (i + 1) text) ≡ true → numeral (drop i text) ≡ hexadecimal (drop (i + 2) text)
-unfolding numeral
+pub hex_at : (text : List ℕ) (i none : ℕ) → i < length text → get_or text i none ≡ 48 → starts is_hex_indicator (drop (i + 1) text) ≡ true → number (drop i text) ≡ hexadecimal (drop (i + 2) text)
+unfolding number
 hex_at text i none h e m =
     let two : drop 1 (drop (i + 1) text) ≡ drop (i + 2) text = drop-drop 1 (i + 1) text ∙ ap (λ (n : ℕ). drop n text) (omega arith) in
     rw (drop_more text i none h, e, m, two) refl
@@ -122,26 +122,26 @@ range_is text i n = ap (λ (k : ℕ). take k (drop i text)) (omega arith)
 
 pub ruleset ranged = (range_is)
 
-pub mark_none : (n : ℕ) (text : List ℕ) → n ≡ 0 → mark_of n text ≡ None
-unfolding mark_of
-mark_none n text e = rw e refl
+pub punctuator_none : (n : ℕ) (text : List ℕ) → n ≡ 0 → punctuator_of n text ≡ None
+unfolding punctuator_of
+punctuator_none n text e = rw e refl
 
-pub mark_short : (n : ℕ) (text : List ℕ) → 0 < n → length text < n → mark_of n text ≡ mark_of (n - 1) text
-unfolding mark_of
-mark_short zero text h l = absurd (omega arith)
-mark_short (suc n) text h l = rw (lt-leb (suc n) (length text) (omega arith)) (ap (λ (k : ℕ). mark_of k text) (omega arith))
+pub punctuator_short : (n : ℕ) (text : List ℕ) → 0 < n → length text < n → punctuator_of n text ≡ punctuator_of (n - 1) text
+unfolding punctuator_of
+punctuator_short zero text h l = absurd (omega arith)
+punctuator_short (suc n) text h l = rw (lt-leb (suc n) (length text) (omega arith)) (ap (λ (k : ℕ). punctuator_of k text) (omega arith))
 
-pub mark_off : (n : ℕ) (text : List ℕ) → 0 < n → n ≤ length text → is_in marks (take n text) ≡ false → mark_of n text ≡ mark_of (n - 1) text
-unfolding mark_of
-mark_off zero text h l e = absurd (omega arith)
-mark_off (suc n) text h l e = rw (le-leb (suc n) (length text) l, e) (ap (λ (k : ℕ). mark_of k text) (omega arith))
+pub punctuator_off : (n : ℕ) (text : List ℕ) → 0 < n → n ≤ length text → is_in punctuators (take n text) ≡ false → punctuator_of n text ≡ punctuator_of (n - 1) text
+unfolding punctuator_of
+punctuator_off zero text h l e = absurd (omega arith)
+punctuator_off (suc n) text h l e = rw (le-leb (suc n) (length text) l, e) (ap (λ (k : ℕ). punctuator_of k text) (omega arith))
 
-pub mark_on : (n : ℕ) (text : List ℕ) → 0 < n → n ≤ length text → is_in marks (take n text) ≡ true → mark_of n text ≡ Some (marked n text)
-unfolding mark_of
-mark_on zero text h l e = absurd (omega arith)
-mark_on (suc n) text h l e = rw (le-leb (suc n) (length text) l, e) refl
+pub punctuator_on : (n : ℕ) (text : List ℕ) → 0 < n → n ≤ length text → is_in punctuators (take n text) ≡ true → punctuator_of n text ≡ Some (found_punctuator n text)
+unfolding punctuator_of
+punctuator_on zero text h l e = absurd (omega arith)
+punctuator_on (suc n) text h l e = rw (le-leb (suc n) (length text) l, e) refl
 
-pub mark_on_at : (n i : ℕ) (text : List ℕ) → 0 < n → i + n ≤ length text → is_in marks (take n (drop i text)) ≡ true → mark_of n (drop i text) ≡ Some (record { kind = variant.Mark; value = encode_utf8_all (take n (drop i text)); rest = drop (i + n) text })
-mark_on_at n i text h l e = mark_on n (drop i text) h (omega (arith, length-drop i text)) e ∙ ap (λ (x : List ℕ). Some (record { kind = variant.Mark; value = encode_utf8_all (take n (drop i text)); rest = x })) (drop-drop n i text)
+pub punctuator_on_at : (n i : ℕ) (text : List ℕ) → 0 < n → i + n ≤ length text → is_in punctuators (take n (drop i text)) ≡ true → punctuator_of n (drop i text) ≡ Some (record { kind = variant.Mark; value = encode_utf8_all (take n (drop i text)); rest = drop (i + n) text })
+punctuator_on_at n i text h l e = punctuator_on n (drop i text) h (omega (arith, length-drop i text)) e ∙ ap (λ (x : List ℕ). Some (record { kind = variant.Mark; value = encode_utf8_all (take n (drop i text)); rest = x })) (drop-drop n i text)
 
-pub ruleset mark_steps = (mark_none, mark_short, mark_off, mark_on_at, length-drop)
+pub ruleset punctuator_steps = (punctuator_none, punctuator_short, punctuator_off, punctuator_on_at, length-drop)

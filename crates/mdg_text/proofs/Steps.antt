@@ -1,10 +1,10 @@
--- Steps through the reader's tests, and cuts of lists.
+-- Steps through the scanner's tests, and cuts of lists.
 use Rattle.std.proofs.Common.{◌≡◌, ℕ, zero, suc, ◌≤◌, ◌<◌, Bool, true, false, cond, not, ◌&&◌, ◌||◌, ◌==◌, ◌⊎◌, inl, inr, List, [], ◌∷◌, ◌++◌, length, arith, refl, ap, ◌∙◌, eqb-true, length-append, Contains, slice_index_or, eq-eqb}
 use Rattle.std.specs.Prelude.{Option, Some, None}
 use Rattle.std.proofs.lemmas.List.{take_at}
 use Rattle.mdg_text.specs.Characters.{starts}
-use Rattle.mdg_text.specs.Lexing.{Each}
-use Rattle.mdg_text.specs.Reading.{◌>>=◌, skip, before, same_text, is_in}
+use Rattle.mdg_text.specs.Characters.{Each}
+use Rattle.mdg_text.specs.Scanner.{◌>>=◌, skip, before, same_text, is_in}
 
 pub some_is : {T : Type 0} (a b : T) → Some a ≡ Some b → a ≡ b
 some_is a b e = cc
@@ -20,6 +20,10 @@ chosen false x y z e = inr (refl, e)
 pub guard_of : {A : Type 0} (b : Bool) (x : Option A) (y : A) → cond b x None ≡ Some y → (b ≡ true) × (x ≡ Some y)
 guard_of true x y e = (refl, e)
 guard_of false x y e = absurd cc
+
+pub unguarded : {A : Type 0} (b : Bool) (x : Option A) (y : A) → cond b None x ≡ Some y → (b ≡ false) × (x ≡ Some y)
+unguarded true x y e = absurd cc
+unguarded false x y e = (refl, e)
 
 pub both_true : (a b : Bool) → (a && b) ≡ true → (a ≡ true) × (b ≡ true)
 both_true true b e = (refl, e)
@@ -49,18 +53,18 @@ skip-append p [] (c ∷ cs) e s = rw s
 skip-append p (d ∷ ds) x e s = rw e.0 (skip-append p ds x e.1 s)
 
 pub record Skipped (p : ℕ → Bool) (text : List ℕ) : Type 0 where
-  pub front : List ℕ
-  pub cut : text ≡ front ++ skip p text
-  pub each : Each p front
+  pub prefix : List ℕ
+  pub cut : text ≡ prefix ++ skip p text
+  pub each : Each p prefix
 
 pub skipped : (p : ℕ → Bool) (text : List ℕ) → Skipped p text
 unfolding skip
-skipped p [] = record { front = []; cut = refl; each = tt }
+skipped p [] = record { prefix = []; cut = refl; each = tt }
 skipped p (c ∷ cs) =
     let s = skipped p cs in
     elim (decided (p c)) [
-      | inl on ↦ record { front = c ∷ s.front; cut = rw on (ap (λ (l : List ℕ). c ∷ l) s.cut); each = (on, s.each) }
-      | inr off ↦ record { front = []; cut = rw off refl; each = tt }
+      | inl on ↦ record { prefix = c ∷ s.prefix; cut = rw on (ap (λ (l : List ℕ). c ∷ l) s.cut); each = (on, s.each) }
+      | inr off ↦ record { prefix = []; cut = rw off refl; each = tt }
     ]
 
 pub skip_stops : (p : ℕ → Bool) (text : List ℕ) → starts p (skip p text) ≡ false
@@ -72,7 +76,7 @@ pub before-append : (a x : List ℕ) → before (a ++ x) x ≡ a
 unfolding before
 before-append a x = take_at a x _ (omega (arith, length-append a x))
 
--- the front is what stands before the rest
+-- the prefix is what stands before the rest
 pub before_is : (text a x : List ℕ) → text ≡ a ++ x → before text x ≡ a
 before_is text a x e = ap (λ t. before t x) e ∙ before-append a x
 
@@ -113,7 +117,7 @@ contradict p q = cc
 pub skip_most : (p : ℕ → Bool) (a x : List ℕ) → Each p a → length (skip p (a ++ x)) ≤ length x
 unfolding skip
 skip_most p [] [] e = omega arith
-skip_most p [] (c ∷ cs) e = let s = skipped p (c ∷ cs) in omega (arith, ap length s.cut, length-append s.front (skip p (c ∷ cs)))
+skip_most p [] (c ∷ cs) e = let s = skipped p (c ∷ cs) in omega (arith, ap length s.cut, length-append s.prefix (skip p (c ∷ cs)))
 skip_most p (d ∷ ds) x e = rw e.0 (skip_most p ds x e.1)
 
 pub either_right : (a b : Bool) → b ≡ true → (a || b) ≡ true

@@ -1,4 +1,4 @@
--- From the walk to the relation over a whole text.
+-- From the loop over the tokens to the relation over a whole text.
 use Rattle.std.proofs.Common.{◌≡◌, ℕ, Bool, true, false, ◌+◌, ◌≤◌, List, [], ◌∷◌, ◌++◌, length, take, append_assoc, arith, refl, sym, ap, ◌∙◌, subst, length-append, inl, inr}
 use Rattle.std.specs.Prelude.{Result, Ok, Err, All}
 use Rattle.std.proofs.lemmas.List.{take_at}
@@ -12,14 +12,16 @@ use Rattle.std.proofs.lemmas.List.Sums.{sum_by-cons}
 use Rattle.mdg_text.specs.declared.token.Token.{Token}
 use Rattle.mdg_text.specs.declared.token.TextFault.{TextFault}
 use Rattle.mdg_text.specs.declared.token.TextFault.TheVariants.{NoMemory, NotUtf8, BadToken, TooManyTokens}
-use Rattle.mdg_text.specs.Lexing.{width, IsScriptLine, IsFirst, LexesAfter, last, next, HasAfter, Lexes, Stuck, Has}
-use Rattle.mdg_text.specs.Reading.{before as front, after_script}
-use Rattle.mdg_text.specs.Walk.{Stop, bad, full, lex, lex_text}
-use Rattle.mdg_text.specs.Answers.{Answers}
+use Rattle.mdg_text.specs.Characters.{width}
+use Rattle.mdg_text.specs.Trivia.{IsScriptLine}
+use Rattle.mdg_text.specs.Lex.{IsFirst, LexesAfter, last, next, HasAfter, Lexes, Stuck, Has}
+use Rattle.mdg_text.specs.Scanner.{before as prefix, after_script}
+use Rattle.mdg_text.specs.Lexer.{Stop, bad, full, lex, lex_text}
+use Rattle.mdg_text.specs.Lexer.{Answers}
 use Rattle.mdg_text.specs.Causes.{HasCauseIn, HasCause, HasLines, IsUnlessMemory, AnswersList, AnswersStuck, AnswersMany, HasOneList, IsNeverBoth, HasOneStop}
 use Rattle.mdg_text.proofs.Steps.{before_is}
-use Rattle.mdg_text.proofs.GapLemmas.{HasScript, has_script, after_script-append}
-use Rattle.mdg_text.proofs.WalkLemmas.{Tells, tells, lex_reads, lex_stuck, lex_full}
+use Rattle.mdg_text.proofs.TriviaLemmas.{HasScript, has_script, after_script-append}
+use Rattle.mdg_text.proofs.LexLemmas.{Tells, tells, lex_reads, lex_stuck, lex_full}
 
 pub width_encodes : (cs : List ℕ) → length (encode_utf8_all cs) ≡ width cs
 unfolding width
@@ -38,7 +40,7 @@ small_length bs cs u e = omega (arith, length-le-encodes (chars bs), ap length (
 -- where the script line ends is where it is read to end
 record IsRead (text script rest : List ℕ) : Type 0 where
   pub rest_is : after_script text ≡ rest
-  pub script_is : front text rest ≡ script
+  pub script_is : prefix text rest ≡ script
   pub inside : length rest ≤ length text
 
 script_read : (text script rest : List ℕ) → text ≡ script ++ rest → IsScriptLine script rest → IsRead text script rest
@@ -50,7 +52,7 @@ script_read text script rest cut i = record {
 
 at_script : (m : ℕ) (text script rest : List ℕ) → IsRead text script rest → lex_text m text ≡ lex m (length text) [] false script rest
 unfolding lex_text
-at_script m text script rest i = ap (λ (l : List ℕ). lex m (length text) [] false (front text l) l) i.rest_is ∙ ap (λ (l : List ℕ). lex m (length text) [] false l rest) i.script_is
+at_script m text script rest i = ap (λ (l : List ℕ). lex m (length text) [] false (prefix text l) l) i.rest_is ∙ ap (λ (l : List ℕ). lex m (length text) [] false l rest) i.script_is
 
 pub text_reads : (m : ℕ) (text : List ℕ) (ts : List Token) → length ts ≤ m → Lexes text ts → lex_text m text ≡ Ok ts
 text_reads m text ts h l = let i = script_read text l.script l.rest l.cut l.is_script in
@@ -75,7 +77,7 @@ told text over h walk (Err (BadToken n)) o t a = let x = subst (Tells 400000 [] 
 told text over h walk (Err (TooManyTokens n)) o t a = let x = subst (Tells 400000 [] false h.script (after_script text)) a.0 t in
     (record { script = h.script; rest = after_script text; cut = h.cut; is_script = h.is_script; has = subst (HasAfter false h.script (after_script text)) (omega arith) x }, a.1 ∙ o)
 
--- what the reader answers has its cause in the text
+-- what is answered has its cause in the text
 pub cause_of : (text : List ℕ) (r : Result (List Token) TextFault) → Answers 400001 (lex_text 400000 text) r → HasCauseIn text r
 cause_of text r a =
     let h = has_script text in
@@ -151,22 +153,22 @@ cause_of_bytes bs (Err (TooManyTokens n)) u a = (u, a)
 take_bytes : (p q : List ℕ) → take (width p) (encode_utf8_all (p ++ q)) ≡ encode_utf8_all p
 take_bytes p q = ap (take (width p)) (encodes-append p q) ∙ take_at (encode_utf8_all p) (encode_utf8_all q) (width p) (width_encodes p)
 
-line_first : (has_token : Bool) (before text : List ℕ) (token : Token) (behind rest : List ℕ) → IsFirst has_token before text token behind rest → token.line ≡ line_at (encode_utf8_all (before ++ text)) token.from
-line_first has_token before text token behind rest f =
-    let cut : before ++ text ≡ (before ++ f.gap) ++ (f.front ++ rest) = ap (λ (l : List ℕ). before ++ l) f.cut ∙ sym (append_assoc before f.gap (f.front ++ rest)) in
-    let part : take token.from (encode_utf8_all (before ++ text)) ≡ encode_utf8_all (before ++ f.gap) =
-    ap (λ (n : ℕ). take n (encode_utf8_all (before ++ text))) f.from_is ∙ (ap (λ (l : List ℕ). take (width (before ++ f.gap)) (encode_utf8_all l)) cut ∙ take_bytes (before ++ f.gap) (f.front ++ rest)) in
-    f.line_is ∙ ap (λ (n : ℕ). n + 1) (sym (line_ends_encoded (before ++ f.gap)) ∙ ap byte_line_ends (sym part))
+line_first : (has_token : Bool) (before text : List ℕ) (token : Token) (consumed rest : List ℕ) → IsFirst has_token before text token consumed rest → token.line ≡ line_at (encode_utf8_all (before ++ text)) token.from
+line_first has_token before text token consumed rest f =
+    let cut : before ++ text ≡ (before ++ f.trivia) ++ (f.prefix ++ rest) = ap (λ (l : List ℕ). before ++ l) f.cut ∙ sym (append_assoc before f.trivia (f.prefix ++ rest)) in
+    let part : take token.from (encode_utf8_all (before ++ text)) ≡ encode_utf8_all (before ++ f.trivia) =
+    ap (λ (n : ℕ). take n (encode_utf8_all (before ++ text))) f.from_is ∙ (ap (λ (l : List ℕ). take (width (before ++ f.trivia)) (encode_utf8_all l)) cut ∙ take_bytes (before ++ f.trivia) (f.prefix ++ rest)) in
+    f.line_is ∙ ap (λ (n : ℕ). n + 1) (sym (line_ends_encoded (before ++ f.trivia)) ∙ ap byte_line_ends (sym part))
 
-same_whole : (has_token : Bool) (before text : List ℕ) (token : Token) (behind rest : List ℕ) → IsFirst has_token before text token behind rest → before ++ text ≡ behind ++ rest
-same_whole has_token before text token behind rest f =
-    ap (λ (l : List ℕ). before ++ l) f.cut ∙ (sym (append_assoc before f.gap (f.front ++ rest)) ∙ (sym (append_assoc (before ++ f.gap) f.front rest) ∙ ap (λ (l : List ℕ). l ++ rest) (sym f.behind_is)))
+same_whole : (has_token : Bool) (before text : List ℕ) (token : Token) (consumed rest : List ℕ) → IsFirst has_token before text token consumed rest → before ++ text ≡ consumed ++ rest
+same_whole has_token before text token consumed rest f =
+    ap (λ (l : List ℕ). before ++ l) f.cut ∙ (sym (append_assoc before f.trivia (f.prefix ++ rest)) ∙ (sym (append_assoc (before ++ f.trivia) f.prefix rest) ∙ ap (λ (l : List ℕ). l ++ rest) (sym f.consumed_is)))
 
 lines_after : (has_token : Bool) (before text whole : List ℕ) (ts : List Token) → encode_utf8_all (before ++ text) ≡ whole → LexesAfter has_token before text ts → All (λ t. t.line ≡ line_at whole t.from) ts
 lines_after has_token before text whole [] e (last g) = All-nil (λ t. t.line ≡ line_at whole t.from)
-lines_after has_token before text whole (t ∷ ts) e (next behind rest f l) =
-    All-cons (λ t. t.line ≡ line_at whole t.from) t ts (line_first has_token before text t behind rest f ∙ ap (λ (b : List ℕ). line_at b t.from) e)
-    (lines_after true behind rest whole ts (ap encode_utf8_all (sym (same_whole has_token before text t behind rest f)) ∙ e) l)
+lines_after has_token before text whole (t ∷ ts) e (next consumed rest f l) =
+    All-cons (λ t. t.line ≡ line_at whole t.from) t ts (line_first has_token before text t consumed rest f ∙ ap (λ (b : List ℕ). line_at b t.from) e)
+    (lines_after true consumed rest whole ts (ap encode_utf8_all (sym (same_whole has_token before text t consumed rest f)) ∙ e) l)
 
 pub lines_of : (bs : List ℕ) (r : Result (List Token) TextFault) → HasCause bs r → HasLines bs r
 lines_of bs (Ok ts) a = let l = a.1.0 in lines_after false l.script l.rest bs ts (ap encode_utf8_all (sym l.cut) ∙ encodes-chars bs a.0) l.lexes

@@ -1,20 +1,24 @@
 -- What each answer says of the bytes.
-use Rattle.std.specs.Prelude.{ℕ, ◌≡◌, ◌≤◌, List, length, Result, Ok, Err, IfOk, All, ◌⊎◌}
+use Rattle.std.specs.Prelude.{ℕ, ◌≡◌, ◌≤◌, ◌+◌, List, length, Result, Ok, Err, IfOk, All, ◌⊎◌}
 use Rattle.std.specs.Str.{IsUtf8, chars}
 use Rattle.std.specs.Str.Lossy.{utf8_valid_len}
 use Rattle.mdg_text.specs.declared.token.Token.{Token}
 use Rattle.mdg_text.specs.declared.token.TextFault.{TextFault}
 use Rattle.mdg_text.specs.declared.token.TextFault.TheVariants.{NoMemory, NotUtf8, BadToken, TooManyTokens}
-use Rattle.mdg_text.specs.Lexing.{Lexes, Stuck, Has}
+use Rattle.mdg_text.specs.Lex.{Lexes, Stuck, Has}
 use Rattle.mdg_text.specs.Lines.{line_at}
+
+-- the most tokens of a file
+abbrev pub token_limit : ℕ
+token_limit = 400000
 
 -- of the characters
 abbrev pub HasCauseIn : List ℕ → Result (List Token) TextFault → Type 0
-HasCauseIn text (Ok tokens) = Lexes text tokens × (length tokens ≤ 400000)
+HasCauseIn text (Ok tokens) = Lexes text tokens × (length tokens ≤ token_limit)
 HasCauseIn text (Err NoMemory) = Unit {0}
 HasCauseIn text (Err (NotUtf8 offset)) = ⊥
-HasCauseIn text (Err (BadToken offset)) = (count : ℕ) × (count ≤ 400000) × Stuck text count offset
-HasCauseIn text (Err (TooManyTokens count)) = Has text 400001 × (count ≡ 400001)
+HasCauseIn text (Err (BadToken offset)) = (count : ℕ) × (count ≤ token_limit) × Stuck text count offset
+HasCauseIn text (Err (TooManyTokens count)) = Has text (token_limit + 1) × (count ≡ token_limit + 1)
 
 -- of the bytes
 abbrev pub HasCause : List ℕ → Result (List Token) TextFault → Type 0
@@ -30,27 +34,35 @@ IsUnlessMemory result wanted = (result ≡ wanted) ⊎ (result ≡ Err NoMemory)
 
 -- a list of tokens is answered,
 abbrev pub AnswersList : List ℕ → Result (List Token) TextFault → Type 0
-AnswersList text result = (tokens : List Token) → Lexes text tokens → length tokens ≤ 400000 → IsUnlessMemory result (Ok tokens)
+AnswersList text result = (tokens : List Token) → Lexes text tokens → length tokens ≤ token_limit → IsUnlessMemory result (Ok tokens)
 
--- an offset at which the walk gets stuck is,
+-- an offset at which no token begins is,
 abbrev pub AnswersStuck : List ℕ → Result (List Token) TextFault → Type 0
-AnswersStuck text result = (count offset : ℕ) → Stuck text count offset → count ≤ 400000 → IsUnlessMemory result (Err (BadToken offset))
+AnswersStuck text result = (count offset : ℕ) → Stuck text count offset → count ≤ token_limit → IsUnlessMemory result (Err (BadToken offset))
 
 -- and so is a token that is too many
 abbrev pub AnswersMany : List ℕ → Result (List Token) TextFault → Type 0
-AnswersMany text result = Has text 400001 → IsUnlessMemory result (Err (TooManyTokens 400001))
+AnswersMany text result = Has text (token_limit + 1) → IsUnlessMemory result (Err (TooManyTokens (token_limit + 1)))
 
 -- a text has at most one list of tokens
 abbrev pub HasOneList : Type 0
 HasOneList = (text : List ℕ) (tokens others : List Token) → Lexes text tokens → Lexes text others → tokens ≡ others
 
--- never a list and an offset at which the walk gets stuck
+-- never a list and an offset at which no token begins
 abbrev pub IsNeverBoth : Type 0
 IsNeverBoth = (text : List ℕ) (tokens : List Token) (count offset : ℕ) → Lexes text tokens → Stuck text count offset → ⊥
 
 -- and at most one such offset
 abbrev pub HasOneStop : Type 0
 HasOneStop = (text : List ℕ) (count offset count' offset' : ℕ) → Stuck text count offset → Stuck text count' offset' → offset ≡ offset'
+
+-- bytes have at most one answer but the refusal of memory,
+abbrev pub HasOneAnswer : Type 0
+HasOneAnswer = (bytes : List ℕ) (a b : Result (List Token) TextFault) → (a ≡ Err NoMemory → ⊥) → (b ≡ Err NoMemory → ⊥) → HasCause bytes a → HasCause bytes b → a ≡ b
+
+-- and at least one
+abbrev pub HasSomeAnswer : Type 0
+HasSomeAnswer = (bytes : List ℕ) → (answer : Result (List Token) TextFault) × (answer ≡ Err NoMemory → ⊥) × HasCause bytes answer
 
 -- each token's line is that of its offset
 abbrev pub HasLines : List ℕ → Result (List Token) TextFault → Type 0

@@ -1,5 +1,7 @@
--- Tests of characters, by their numbers.
-use Rattle.std.specs.Prelude.{ℕ, ◌-◌, Bool, false, cond, ◌&&◌, ◌||◌, ◌==◌, nat_lt, nat_le, List, [], ◌∷◌}
+-- Tests of characters by their numbers, and of lists of characters.
+use Rattle.std.specs.Prelude.{ℕ, ◌≡◌, ◌+◌, ◌-◌, Bool, true, false, cond, not, ◌&&◌, ◌||◌, ◌==◌, nat_lt, nat_le, List, [], ◌∷◌}
+use Rattle.std.specs.Char.{len_utf8}
+use Rattle.std.specs.List.{sum_by}
 use Rattle.unicode_ident.specs.Ident.{is_xid_start, is_xid_continue}
 
 unfoldable pub within : ℕ → ℕ → ℕ → Bool
@@ -38,19 +40,19 @@ is_part c = is_xid_continue c || ((c == 36) || ((c == 0x200C) || (c == 0x200D)))
 unfoldable pub is_quote : ℕ → Bool
 is_quote c = (c == 34) || (c == 39)
 
--- `e` or `E`
-unfoldable pub is_exponent_mark : ℕ → Bool
-is_exponent_mark c = (c == 101) || (c == 69)
+-- ExponentIndicator, 7.8.3: `e` or `E`
+unfoldable pub is_exponent_indicator : ℕ → Bool
+is_exponent_indicator c = (c == 101) || (c == 69)
 
 -- `+` or `-`
 unfoldable pub is_sign : ℕ → Bool
 is_sign c = (c == 43) || (c == 45)
 
--- `x` or `X`
-unfoldable pub is_hex_mark : ℕ → Bool
-is_hex_mark c = (c == 120) || (c == 88)
+-- the `x` or `X` of a HexIntegerLiteral, 7.8.3
+unfoldable pub is_hex_indicator : ℕ → Bool
+is_hex_indicator c = (c == 120) || (c == 88)
 
--- units of UTF-16 that are the first, or the second, of a pair
+-- units of UTF-16 that are the first, or the second, of a surrogate pair
 unfoldable pub is_high : ℕ → Bool
 is_high u = within 0xD800 0xDBFF u
 
@@ -61,3 +63,26 @@ is_low u = within 0xDC00 0xDFFF u
 abbrev pub starts : (ℕ → Bool) → List ℕ → Bool
 starts p [] = false
 starts p (c ∷ cs) = p c
+
+-- each passes
+abbrev pub Each : (ℕ → Bool) → List ℕ → Type 0
+Each p [] = Unit {0}
+Each p (c ∷ cs) = (p c ≡ true) × Each p cs
+
+-- one or more that pass
+abbrev pub OneOrMore : (ℕ → Bool) → List ℕ → Type 0
+OneOrMore p [] = ⊥
+OneOrMore p (c ∷ cs) = (p c ≡ true) × Each p cs
+
+-- no line end
+abbrev pub in_line : ℕ → Bool
+in_line c = not (is_line_end c)
+
+-- how many bytes the characters take
+unfoldable pub width : List ℕ → ℕ
+width cs = sum_by len_utf8 cs
+
+-- how many line ends; CR LF is one
+unfoldable pub line_ends : List ℕ → ℕ
+line_ends [] = 0
+line_ends (c ∷ cs) = cond (is_line_end c && not ((c == 13) && starts (λ d. d == 10) cs)) 1 0 + line_ends cs

@@ -1,22 +1,25 @@
 //! One token: of the four classes the longest.
 
-ghost use Rattle.std.specs.Prelude.{◌≡◌, ◌≤◌, ◌<◌, ◌+◌, ◌-◌, length, drop, take, IfOk, IfSome};
+ghost use Rattle.std.specs.Prelude.{◌≡◌, ◌≤◌, ◌<◌, ◌+◌, ◌-◌, ◌&&◌, ◌==◌, slice_index, length, drop, take, IfOk, IfSome};
 ghost use Rattle.std.specs.Str.{encode_utf8_all};
 ghost use Rattle.mdg_text.specs.Characters as character;
-ghost use Rattle.mdg_text.specs.Reading as spec;
-ghost use Rattle.mdg_text.specs.Tables.{marks};
-ghost use Rattle.mdg_text.specs.Found.{found_at};
+ghost use Rattle.mdg_text.specs.Scanner as spec;
+ghost use Rattle.mdg_text.specs.Punctuator.{punctuators};
+ghost use Rattle.mdg_text.specs.Places.{found_at};
 
 use crate::TokenKind;
-use crate::character::{is_part, is_quote, is_start};
-use crate::mark::is_mark;
-use crate::numeral::numeral;
-use crate::quoted::body;
-use crate::word::is_word;
+use crate::characters::{is_part, is_quote, is_start};
+use crate::number::number;
+use crate::punctuator::is_punctuator;
+use crate::reserved_word::is_reserved_word;
+use crate::string_literal::string_body;
 use mdg_base::{NoMemory, Text};
 use std::alloc::Global;
 
-/// A token that begins at a place, and the place behind it.
+/// The most characters of a punctuator.
+const LONGEST_PUNCTUATOR: usize = 4;
+
+/// A token that begins at a place, and the place after it.
 #[derive(Debug, Drop)]
 pub(crate) struct Lexeme {
     pub kind: TokenKind,
@@ -62,15 +65,15 @@ fn after_parts(text: &[char], at: usize) -> usize
 fn kind_of(text: &str) -> TokenKind
     ensures { result ≡ spec.kind_of text.now }
 {
-    if is_word(text) {
+    if is_reserved_word(text) {
         TokenKind::Word
     } else {
         TokenKind::Name
     }
 }
 
-/// A name or a word.
-#[tactic(auto, using(crate::proofs::PlaceLemmas::front), unfolding(crate::specs::Reading::name_at))]
+/// A name or a reserved word.
+#[tactic(auto, using(crate::proofs::PlaceLemmas::first_character), unfolding(crate::specs::Scanner::name_at))]
 fn name_at(alloc: Global, text: &[char], at: usize) -> Result<Option<Lexeme>, NoMemory>
     requires { at ≤ length text.now }
     ensures bound { IfOk result (λ o. IfSome o (λ f. f.next ≤ length text.now)) }
@@ -88,13 +91,13 @@ fn name_at(alloc: Global, text: &[char], at: usize) -> Result<Option<Lexeme>, No
     Ok(Some(Lexeme { kind, value, next }))
 }
 
-#[tactic(auto, using(crate::proofs::PlaceLemmas::front), unfolding(crate::specs::Reading::numeral_at))]
-fn numeral_at(alloc: Global, text: &[char], at: usize) -> Result<Option<Lexeme>, NoMemory>
+#[tactic(auto, using(crate::proofs::PlaceLemmas::first_character), unfolding(crate::specs::Scanner::number_at))]
+fn number_at(alloc: Global, text: &[char], at: usize) -> Result<Option<Lexeme>, NoMemory>
     requires { at ≤ length text.now }
     ensures bound { IfOk result (λ o. IfSome o (λ f. f.next ≤ length text.now)) }
-    ensures reads { IfOk result (λ o. spec.numeral_at (drop at text.now) ≡ found_at text.now o) }
+    ensures reads { IfOk result (λ o. spec.number_at (drop at text.now) ≡ found_at text.now o) }
 {
-    let Some(next) = numeral(text, at) else {
+    let Some(next) = number(text, at) else {
         return Ok(None);
     };
     let value = spelling(alloc, text, at, next)?;
@@ -105,11 +108,11 @@ fn numeral_at(alloc: Global, text: &[char], at: usize) -> Result<Option<Lexeme>,
     }))
 }
 
-#[tactic(auto, using(crate::proofs::PlaceLemmas::front), unfolding(crate::specs::Reading::text_at))]
-fn text_at(alloc: Global, text: &[char], at: usize) -> Result<Option<Lexeme>, NoMemory>
+#[tactic(auto, using(crate::proofs::PlaceLemmas::first_character), unfolding(crate::specs::Scanner::string_at))]
+fn string_at(alloc: Global, text: &[char], at: usize) -> Result<Option<Lexeme>, NoMemory>
     requires { at ≤ length text.now }
     ensures bound { IfOk result (λ o. IfSome o (λ f. f.next ≤ length text.now)) }
-    ensures reads { IfOk result (λ o. spec.text_at (length text.now) (drop at text.now) ≡ found_at text.now o) }
+    ensures reads { IfOk result (λ o. spec.string_at (length text.now) (drop at text.now) ≡ found_at text.now o) }
 {
     if at == text.len() {
         return Ok(None);
@@ -118,23 +121,23 @@ fn text_at(alloc: Global, text: &[char], at: usize) -> Result<Option<Lexeme>, No
     if !is_quote(quote) {
         return Ok(None);
     }
-    let Some(quoted) = body(alloc, text, quote, at + 1)? else {
+    let Some(scanned) = string_body(alloc, text, quote, at + 1)? else {
         return Ok(None);
     };
-    let value = text_of(alloc, quoted.value.as_slice())?;
+    let value = text_of(alloc, scanned.value.as_slice())?;
     Ok(Some(Lexeme {
         kind: TokenKind::Text,
         value,
-        next: quoted.next,
+        next: scanned.next,
     }))
 }
 
 #[tactic(auto, using(crate::proofs::PlaceLemmas::ranged))]
-fn is_mark_at(text: &[char], at: usize, size: usize) -> bool
+fn is_punctuator_at(text: &[char], at: usize, size: usize) -> bool
     requires { at + size ≤ length text.now }
-    ensures { result ≡ spec.is_in marks (take size (drop at text.now)) }
+    ensures { result ≡ spec.is_in punctuators (take size (drop at text.now)) }
 {
-    is_mark(&text[at..at + size])
+    is_punctuator(&text[at..at + size])
 }
 
 #[tactic(auto, using(crate::proofs::PlaceLemmas::ranged))]
@@ -145,20 +148,25 @@ fn copied(alloc: Global, text: &[char], at: usize, size: usize) -> Result<Text, 
     text_of(alloc, &text[at..at + size])
 }
 
-/// The longest mark of at most `most` characters.
-fn mark_at(alloc: Global, text: &[char], at: usize, most: usize) -> Result<Option<Lexeme>, NoMemory>
+/// The longest punctuator of at most `most` characters.
+fn punctuator_at(
+    alloc: Global,
+    text: &[char],
+    at: usize,
+    most: usize,
+) -> Result<Option<Lexeme>, NoMemory>
     requires { at ≤ length text.now }
     ensures bound { IfOk result (λ o. IfSome o (λ f. f.next ≤ length text.now)) }
-    ensures reads { IfOk result (λ o. spec.mark_of most (drop at text.now) ≡ found_at text.now o) }
+    ensures reads { IfOk result (λ o. spec.punctuator_of most (drop at text.now) ≡ found_at text.now o) }
 {
     if most == 0 {
         return Ok(None);
     }
     if text.len() - at < most {
-        return mark_at(alloc, text, at, most - 1);
+        return punctuator_at(alloc, text, at, most - 1);
     }
-    if !is_mark_at(text, at, most) {
-        return mark_at(alloc, text, at, most - 1);
+    if !is_punctuator_at(text, at, most) {
+        return punctuator_at(alloc, text, at, most - 1);
     }
     let value = copied(alloc, text, at, most)?;
     Ok(Some(Lexeme {
@@ -168,7 +176,7 @@ fn mark_at(alloc: Global, text: &[char], at: usize, most: usize) -> Result<Optio
     }))
 }
 
-#[tactic(auto, unfolding(crate::specs::Reading::longer))]
+#[tactic(auto, unfolding(crate::specs::Scanner::longer))]
 fn longer(text: &[char], a: Option<Lexeme>, b: Option<Lexeme>) -> Option<Lexeme>
     requires left { IfSome a (λ f. f.next ≤ length text.now) }
     requires right { IfSome b (λ f. f.next ≤ length text.now) }
@@ -184,20 +192,52 @@ fn longer(text: &[char], a: Option<Lexeme>, b: Option<Lexeme>) -> Option<Lexeme>
     if y.next <= x.next { Some(x) } else { Some(y) }
 }
 
-/// The longest token that begins at the place.
-#[tactic(auto, unfolding(crate::specs::Reading::token_at))]
+/// The longest of the spellings that begin at the place.
+#[tactic(auto, unfolding(crate::specs::Scanner::longest_at))]
+fn longest_at(alloc: Global, text: &[char], at: usize) -> Result<Option<Lexeme>, NoMemory>
+    requires { at ≤ length text.now }
+    ensures bound { IfOk result (λ o. IfSome o (λ f. f.next ≤ length text.now)) }
+    ensures reads { IfOk result (λ o. spec.longest_at (length text.now) (drop at text.now) ≡ found_at text.now o) }
+{
+    let name = name_at(alloc, text, at)?;
+    let number = number_at(alloc, text, at)?;
+    let string = string_at(alloc, text, at)?;
+    let punctuator = punctuator_at(alloc, text, at, LONGEST_PUNCTUATOR)?;
+    Ok(longer(
+        text,
+        name,
+        longer(text, number, longer(text, string, punctuator)),
+    ))
+}
+
+fn spells_html_comment(text: &[char], at: usize) -> bool
+    requires { at + 3 < length text.now }
+    ensures { result ≡ (((slice_index text.now at == 60) && (slice_index text.now (at + 1) == 33)) && ((slice_index text.now (at + 2) == 45) && (slice_index text.now (at + 2 + 1) == 45))) }
+{
+    (text[at] == '<' && text[at + 1] == '!') && (text[at + 2] == '-' && text[at + 3] == '-')
+}
+
+/// Whether `<!--` stands there, where engines begin a comment.
+#[tactic(auto, using(crate::proofs::UnitLemmas::html_steps))]
+fn begins_html_comment(text: &[char], at: usize) -> bool
+    requires { at ≤ length text.now }
+    ensures { result ≡ spec.begins_html_comment (drop at text.now) }
+{
+    if text.len() - at < 4 {
+        return false;
+    }
+    spells_html_comment(text, at)
+}
+
+/// The token that begins at the place: the longest, and none at `<!--`.
+#[tactic(auto, unfolding(crate::specs::Scanner::token_at))]
 pub(crate) fn token_at(alloc: Global, text: &[char], at: usize) -> Result<Option<Lexeme>, NoMemory>
     requires { at ≤ length text.now }
     ensures bound { IfOk result (λ o. IfSome o (λ f. f.next ≤ length text.now)) }
     ensures reads { IfOk result (λ o. spec.token_at (length text.now) (drop at text.now) ≡ found_at text.now o) }
 {
-    let name = name_at(alloc, text, at)?;
-    let numeral = numeral_at(alloc, text, at)?;
-    let quoted = text_at(alloc, text, at)?;
-    let mark = mark_at(alloc, text, at, 4)?;
-    Ok(longer(
-        text,
-        name,
-        longer(text, numeral, longer(text, quoted, mark)),
-    ))
+    if begins_html_comment(text, at) {
+        return Ok(None);
+    }
+    longest_at(alloc, text, at)
 }

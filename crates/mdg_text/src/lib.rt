@@ -1,21 +1,22 @@
 //! The tokens of strict ECMAScript 5.1, section 7 of ECMA-262 5.1.
 #![tactic(auto)]
 
-mod character;
-mod gap;
+mod characters;
+mod cursor;
+mod laws;
+mod lex;
 mod lexeme;
-mod line;
-mod mark;
-mod numeral;
-mod quoted;
-mod reader;
-mod spot;
+mod lines;
+mod number;
+mod punctuator;
+mod reserved_word;
+mod string_literal;
 #[cfg(test)]
 mod tests;
 mod token;
-mod walk;
-mod word;
+mod trivia;
 
-pub use line::line_of;
-pub use reader::{law_tokens, tokens};
+pub use laws::{law_answers, law_tokens};
+pub use lex::tokens;
+pub use lines::line_of;
 pub use token::{TextFault, Token, TokenKind};

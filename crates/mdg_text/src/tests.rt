@@ -6,7 +6,7 @@ use crate::{TextFault, TokenKind, line_of, tokens};
 use std::alloc::Global;
 use std::test::Fail;
 
-/// A token as `FROM..TO LINE KIND TEXT`, with `+` before the line behind a line end; or the fault.
+/// A token as `FROM..TO LINE KIND TEXT`, with `+` before the line after a line end; or the fault.
 fn shown(alloc: Global, source: &[u8]) -> Result<String, Fail> {
     let mut out = String::new(alloc);
     if 1_048_576 < source.len() {
@@ -34,7 +34,7 @@ fn shown(alloc: Global, source: &[u8]) -> Result<String, Fail> {
 
 #[test]
 fn lists(rt: HostRuntime) -> Result<(), Fail> {
-    let rows: [(&[u8], &str); 24] = [
+    let rows: [(&[u8], &str); 29] = [
         (b"", ""),
         (
             b"'use strict';\nvar a",
@@ -47,7 +47,27 @@ fn lists(rt: HostRuntime) -> Result<(), Fail> {
         ),
         (b"a>>>=b", "0..1 1 Name a;1..5 1 Mark >>>=;5..6 1 Name b;"),
         (b"!===", "0..3 1 Mark !==;3..4 1 Mark =;"),
-        (b"<!--", "0..1 1 Mark <;1..2 1 Mark !;2..4 1 Mark --;"),
+        (
+            b"< !--b",
+            "0..1 1 Mark <;2..3 1 Mark !;3..5 1 Mark --;5..6 1 Name b;",
+        ),
+        (
+            b"<! --b",
+            "0..1 1 Mark <;1..2 1 Mark !;3..5 1 Mark --;5..6 1 Name b;",
+        ),
+        (
+            b"<<!--b",
+            "0..2 1 Mark <<;2..3 1 Mark !;3..5 1 Mark --;5..6 1 Name b;",
+        ),
+        (b"<!-", "0..1 1 Mark <;1..2 1 Mark !;2..3 1 Mark -;"),
+        (
+            b"'<!--'/*<!--*/-->//<!--",
+            "0..6 1 Text <!--;14..16 1 Mark --;16..17 1 Mark >;",
+        ),
+        (
+            b"<!-\n-",
+            "0..1 1 Mark <;1..2 1 Mark !;2..3 1 Mark -;4..5 +2 Mark -;",
+        ),
         (b".5.", "0..2 1 Numeral .5;2..3 1 Mark .;"),
         (
             b"5..toString",
@@ -105,7 +125,7 @@ fn lists(rt: HostRuntime) -> Result<(), Fail> {
 
 #[test]
 fn faults(rt: HostRuntime) -> Result<(), Fail> {
-    let rows: [(&[u8], &str); 36] = [
+    let rows: [(&[u8], &str); 39] = [
         (b"'use strict';\nvar a = 'x", "bad 22"),
         (b"'use strict';\n5.toString();", "bad 14"),
         (b"\x27\xff", "not UTF-8 1"),
@@ -115,6 +135,9 @@ fn faults(rt: HostRuntime) -> Result<(), Fail> {
         (b"\xc3\xa9 #", "bad 3"),
         (b"a @", "bad 2"),
         (b" #!x", "bad 1"),
+        (b"<!--", "bad 0"),
+        (b"'use strict'; a <!-- b", "bad 16"),
+        (b"a\n<<<!--b", "bad 4"),
         (b"a \\u0061", "bad 2"),
         (b"a\\u0061", "bad 1"),
         (b"\xe2\x80\x8d", "bad 0"),

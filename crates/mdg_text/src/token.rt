@@ -32,7 +32,7 @@ pub struct Token {
     /// Where it begins, in bytes from 0.
     pub from: u32,
 
-    /// Where it ends, in bytes from 0: the offset behind its last byte.
+    /// Where it ends, in bytes from 0: the offset after its last byte.
     pub to: u32,
 
     /// The line in which it begins, counted from 1.

@@ -1,6 +1,6 @@
 use Rattle.std.proofs.Common.{◌≡◌, ◌≤◌, ◌-◌, length, drop}
 use Rattle.mdg_text.specs.Characters.{is_part}
-use Rattle.mdg_text.specs.Reading.{skip}
+use Rattle.mdg_text.specs.Scanner.{skip}
 use Rattle.mdg_text.proofs.lexeme.after_parts.Given as goal
 
 abbrev pub invariant-loop-i : goal.invariant-loop-i
