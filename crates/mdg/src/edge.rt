@@ -10,7 +10,10 @@ use std::io::Read;
 use std::rt::Files;
 use std::{fs, io};
 
-/// The current directory. A path that doesn't exist, leads through something that is no folder, or is no file, is absent.
+/// The current directory. Symbolic links are followed.
+///
+/// A path is absent where no file can be: it doesn't exist, is no file, leads through something that is no folder or
+/// round a loop of symbolic links, has a NUL in it, or is longer than the system's names or paths.
 #[derive(Drop)]
 pub struct DirFolder<'a, R: Files> {
     rt: &'a R,
@@ -34,13 +37,27 @@ impl<'a, R: Files> DirFolder<'a, R> {
     }
 }
 
-fn ending_of(error: &io::Error) -> Ending
+// A path that couldn't be looked up or opened.
+fn ending_of_path(error: &io::Error) -> Ending
     ensures { (limit : ℕ) → EndsWithin limit result }
 {
     match error.kind() {
-        io::ErrorKind::NotFound | io::ErrorKind::NotADirectory | io::ErrorKind::IsADirectory => {
-            Ending::Found(Fetched::Absent)
-        }
+        io::ErrorKind::NotFound
+        | io::ErrorKind::NotADirectory
+        | io::ErrorKind::IsADirectory
+        | io::ErrorKind::InvalidInput
+        | io::ErrorKind::InvalidFilename
+        | io::ErrorKind::FilesystemLoop => Ending::Found(Fetched::Absent),
+        io::ErrorKind::OutOfMemory => Ending::NoMemory,
+        _ => Ending::Failed,
+    }
+}
+
+// A file that was opened, and couldn't be read.
+fn ending_of_file(error: &io::Error) -> Ending
+    ensures { (limit : ℕ) → EndsWithin limit result }
+{
+    match error.kind() {
         io::ErrorKind::OutOfMemory => Ending::NoMemory,
         _ => Ending::Failed,
     }
@@ -51,16 +68,16 @@ fn read_to_limit<I: Read>(alloc: Global, input: &mut I, limit: u64) -> Ending
     ensures { EndsWithin limit result }
 {
     let mut bytes: Vec<u8> = Vec::new(alloc);
-    let mut piece = [0u8; 512];
+    let mut buffer = [0u8; 512];
     while bytes.len() as u64 <= limit {
-        match input.read(&mut piece) {
+        match input.read(&mut buffer) {
             Ok(0) => return Ending::Found(Fetched::Bytes(Items::from_vec(bytes))),
             Ok(count) => {
-                if bytes.extend_from_slice(&piece[..count]).is_err() {
+                if bytes.extend_from_slice(&buffer[..count]).is_err() {
                     return Ending::NoMemory;
                 }
             }
-            Err(error) => return ending_of(&error),
+            Err(error) => return ending_of_file(&error),
         }
     }
     Ending::Found(Fetched::TooLong)
@@ -75,11 +92,11 @@ fn read_path<R: Files>(rt: &R, alloc: Global, path: &str, limit: u64) -> Ending
                 return Ending::Found(Fetched::Absent);
             }
         }
-        Err(error) => return ending_of(&error),
+        Err(error) => return ending_of_path(&error),
     }
     match fs::open(rt, path) {
         Ok(mut file) => read_to_limit(alloc, &mut file, limit),
-        Err(error) => ending_of(&error),
+        Err(error) => ending_of_path(&error),
     }
 }
 

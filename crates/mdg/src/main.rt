@@ -2,6 +2,8 @@
 #![tactic(auto)]
 
 mod edge;
+#[cfg(test)]
+mod tests;
 
 use edge::{DirFolder, OutSink};
 use mdg_port::NoGate;

@@ -7,12 +7,13 @@ use Rattle.mdg_profile.specs.declared.entry.Profile.{Profile}
 use Rattle.mdg_scope.specs.declared.bound.Bound.{Bound}
 use Rattle.mdg_scope.specs.declared.bound.BoundFunction.{BoundFunction}
 use Rattle.mdg_scope.specs.declared.function.Uses.{Uses}
-use Rattle.mdg_scope.specs.declared.meaning.Tables.{Tables}
+use Rattle.mdg_scope.specs.declared.resolution.Scopes.{Scopes}
 use Rattle.mdg_scope.specs.Bindings.{Binds}
 use Rattle.mdg_scope.specs.Functions.{body, functions, heads, uses, with_names}
-use Rattle.mdg_scope.specs.Meaning.{tables}
-use Rattle.mdg_scope.specs.Names.{Named}
-use Rattle.mdg_scope.specs.Words.{file_words, given, inside}
+use Rattle.mdg_scope.specs.Resolution.{scopes}
+use Rattle.mdg_scope.specs.Names.{ScopedName}
+use Rattle.mdg_scope.specs.Collectors.{inside}
+use Rattle.mdg_scope.specs.Occurrences.{file_occurrences, given}
 use Rattle.mdg_lower.specs.Fitting.{FileFits}
 use Rattle.mdg_lower.specs.Walking.{functions_in}
 use Rattle.mdg_lower.proofs.BoundWords.{ParentWithin, Stands}
@@ -30,40 +31,40 @@ parent_below n f h = by f.parent h
     by None h = tt
     by (Some parent) h = let low : parent ≤ n = h in omega arith
 
-module _ (t : Tables) (us : Uses) where
+module _ (t : Scopes) (us : Uses) where
   -- names change no number of functions
-  names_keep : (names : List Named) (number : ℕ) (fs : List BoundFunction) → length (with_names t us names number fs) ≡ length fs
+  names_keep : (names : List ScopedName) (number : ℕ) (fs : List BoundFunction) → length (with_names t us names number fs) ≡ length fs
   names_keep names number [] = refl
   names_keep names number (f ∷ fs) = ap suc (names_keep names (number + 1) fs)
 
   -- nor any parent
-  names_below : (n : ℕ) (names : List Named) (number : ℕ) (fs : List BoundFunction) → All (ParentWithin n) fs → All (ParentBelow (1 + n)) (with_names t us names number fs)
+  names_below : (n : ℕ) (names : List ScopedName) (number : ℕ) (fs : List BoundFunction) → All (ParentWithin n) fs → All (ParentBelow (1 + n)) (with_names t us names number fs)
   names_below n names number [] h = All-nil (ParentBelow (1 + n))
   names_below n names number (f ∷ fs) h = All-cons (ParentBelow (1 + n)) _ _ (parent_below n f (All-head (ParentWithin n) f fs h)) (names_below n names (number + 1) fs (All-tail (ParentWithin n) f fs h))
 
-  -- before the file's own words no function has begun
+  -- before the file's own occurrences no function has begun
   stands_given : Stands t us 0 given
   stands_given = record { begun = refl; counted = refl; within = All-nil (ParentWithin 0) }
 
-  -- the words of a file begin its functions
-  stands_file : (tree : FileTree) → (length (heads t us (file_words tree)) ≡ length (functions_in tree.items)) × All (ParentWithin (length (functions_in tree.items))) (heads t us (file_words tree))
+  -- the occurrences of a file begin its functions
+  stands_file : (tree : FileTree) → (length (heads t us (file_occurrences tree)) ≡ length (functions_in tree.items)) × All (ParentWithin (length (functions_in tree.items))) (heads t us (file_occurrences tree))
   stands_file tree =
       let count : ℕ = length (functions_in tree.items) in
       let low : 0 ≤ 0 = omega arith in
       let zero_more : 0 + count ≡ count = omega arith in
       let all : Stands t us (0 + count) _ = adds_body t us tree.items 0 (inside 0) given low stands_given in
-      (all.counted ∙ zero_more, subst (λ n. All (ParentWithin n) (heads t us (file_words tree))) zero_more all.within)
+      (all.counted ∙ zero_more, subst (λ n. All (ParentWithin n) (heads t us (file_occurrences tree))) zero_more all.within)
 
--- the functions of a file's words
-functions_fit : (t : Tables) (tree : FileTree) → (length (functions t (file_words tree)) ≡ 1 + length (functions_in tree.items)) × All (ParentBelow (1 + length (functions_in tree.items))) (functions t (file_words tree))
+-- the functions of a file's occurrences
+functions_fit : (t : Scopes) (tree : FileTree) → (length (functions t tree.at (file_occurrences tree)) ≡ 1 + length (functions_in tree.items)) × All (ParentBelow (1 + length (functions_in tree.items))) (functions t tree.at (file_occurrences tree))
 functions_fit t tree =
-    let us : Uses = uses t (file_words tree) in
+    let us : Uses = uses t (file_occurrences tree) in
     let count : ℕ = length (functions_in tree.items) in
     let stands = stands_file t us tree in
-    let counted : length (heads t us (file_words tree)) ≡ count = stands.0 in
-    let rows : length (body ∷ heads t us (file_words tree)) ≡ 1 + count = omega (arith, counted) in (
-      names_keep t us us.names 0 (body ∷ heads t us (file_words tree)) ∙ rows,
-      names_below t us count us.names 0 (body ∷ heads t us (file_words tree)) (All-cons (ParentWithin count) body (heads t us (file_words tree)) tt stands.1),
+    let counted : length (heads t us (file_occurrences tree)) ≡ count = stands.0 in
+    let rows : length (body tree.at ∷ heads t us (file_occurrences tree)) ≡ 1 + count = omega (arith, counted) in (
+      names_keep t us us.names 0 (body tree.at ∷ heads t us (file_occurrences tree)) ∙ rows,
+      names_below t us count us.names 0 (body tree.at ∷ heads t us (file_occurrences tree)) (All-cons (ParentWithin count) (body tree.at) (heads t us (file_occurrences tree)) tt stands.1),
     )
 
 -- a file whose functions and tree are these fits
@@ -79,6 +80,6 @@ fits_with bound tree fs tree_is is counted below =
 -- a file that `bind` gives fits
 pub bound_fits : (path : List ℕ) (tree : FileTree) (profile : Profile) (bound : Bound) → Binds path tree profile bound → FileFits bound
 bound_fits path tree profile bound h =
-    let t : Tables = tables (file_words tree) profile in
+    let t : Scopes = scopes (file_occurrences tree) profile in
     let fit = functions_fit t tree in
-    fits_with bound tree (functions t (file_words tree)) h.same_tree h.all_functions fit.0 fit.1
+    fits_with bound tree (functions t tree.at (file_occurrences tree)) h.same_tree h.all_functions fit.0 fit.1

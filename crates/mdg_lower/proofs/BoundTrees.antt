@@ -1,4 +1,4 @@
--- The words of a part begin the functions that stand in it, by induction over the part.
+-- The occurrences of a part begin the functions that stand in it, by induction over the part.
 use Rattle.std.specs.Prelude.{◌≡◌, ℕ, List, [], ◌∷◌, ◌++◌, map, Option, Some, None, option_map}
 use Rattle.std.specs.List.{flat_map}
 use Rattle.std.proofs.Common.{sym, subst}
@@ -18,50 +18,51 @@ use Rattle.mdg_tree.specs.declared.tree.Expr.TheOpen.{Expr-F, Goal-F, Init-F, St
 use Rattle.mdg_tree.specs.declared.tree.Expr.TheViews.{roll-Expr, roll-Goal, roll-Init, roll-Stmt, roll-Declaration, roll-Function, roll-Property}
 use Rattle.mdg_tree.specs.declared.tree.Expr.TheFolds.{ind-Stmt, map-Expr, map-Goal, map-Init, map-Stmt, map-Declaration, map-Function, map-Property}
 use Rattle.mdg_scope.specs.declared.function.Uses.{Uses}
-use Rattle.mdg_scope.specs.declared.meaning.Tables.{Tables}
-use Rattle.mdg_scope.specs.declared.word.Collected.{Collected}
-use Rattle.mdg_scope.specs.declared.word.Role.TheVariants as r
-use Rattle.mdg_scope.specs.declared.word.Spot.{Spot}
-use Rattle.mdg_scope.specs.declared.word.Use.{Use}
-use Rattle.mdg_scope.specs.declared.word.Use.TheVariants as v
-use Rattle.mdg_scope.specs.Words.{Words, add, all_read, all_said, all_values, callee_use, constructed_word, declaration_words, expressed_words, declared_words, function_words, goal_words, in_loop, init_words, jump_words, name_of, object_words, only_text, operand_use, operator_word, optional, property_words, read_of, assigned_of, repeated_keys, said, silent, stmt_words, use_role, used_of}
-use Rattle.mdg_scope.specs.Words as w
+use Rattle.mdg_scope.specs.declared.resolution.Scopes.{Scopes}
+use Rattle.mdg_scope.specs.declared.occurrence.Occurrences.{Occurrences}
+use Rattle.mdg_scope.specs.declared.occurrence.OccurrenceKind.TheVariants as r
+use Rattle.mdg_scope.specs.declared.occurrence.Context.{Context}
+use Rattle.mdg_scope.specs.declared.occurrence.Use.{Use}
+use Rattle.mdg_scope.specs.declared.occurrence.Use.TheVariants as v
+use Rattle.mdg_scope.specs.Collectors.{Collector, add, read_all, collect_all, all_values, callee_use, constructed_occurrence, expressed_occurrences, declared_occurrences, within_loop, jump_occurrences, object_occurrences, only_text, operand_use, operator_occurrence, optional, repeated_keys, silent, use_kind}
+use Rattle.mdg_scope.specs.Occurrences.{declaration_occurrences, function_occurrences, goal_occurrences, init_occurrences, name_of, property_occurrences, read_of, assigned_of, expr_collector, stmt_occurrences, used_of}
+use Rattle.mdg_scope.proofs.Equations as w
 use Rattle.mdg_lower.specs.Walking.{functions_of_expr, functions_of_goal, functions_of_init, functions_of_stmt, functions_of_declaration, functions_of_function, functions_of_property, functions_of_optional}
 use Rattle.mdg_lower.specs.Walking as l
 use Rattle.mdg_lower.proofs.BoundWords as b
 
-module _ (tables : Tables) (uses : Uses) where
-  -- the words begin these functions
-  abbrev Adds : List Function → Words → Type 0
-  Adds = b.Adds tables uses
+module _ (scopes : Scopes) (uses : Uses) where
+  -- the occurrences begin these functions
+  abbrev Adds : List Function → Collector → Type 0
+  Adds = b.Adds scopes uses
 
-  -- an expression's words begin its functions, however it is used
+  -- an expression's occurrences begin its functions, however it is used
   abbrev AddsExpr : Expr → Type 0
   AddsExpr x = (manner : Use) → Adds (functions_of_expr x) (used_of x manner)
 
-  -- a goal's words begin its functions
+  -- a goal's occurrences begin its functions
   abbrev AddsGoal : Goal → Type 0
-  AddsGoal x = Adds (functions_of_goal x) (goal_words x)
+  AddsGoal x = Adds (functions_of_goal x) (goal_occurrences x)
 
   -- those of a loop's start do
   abbrev AddsInit : Init → Type 0
-  AddsInit x = Adds (functions_of_init x) (init_words x)
+  AddsInit x = Adds (functions_of_init x) (init_occurrences x)
 
   -- those of a statement do
   abbrev AddsStmt : Stmt → Type 0
-  AddsStmt x = Adds (functions_of_stmt x) (stmt_words x)
+  AddsStmt x = Adds (functions_of_stmt x) (stmt_occurrences x)
 
   -- those of a declaration do
   abbrev AddsDeclaration : Declaration → Type 0
-  AddsDeclaration x = Adds (functions_of_declaration x) (declaration_words x)
+  AddsDeclaration x = Adds (functions_of_declaration x) (declaration_occurrences x)
 
   -- those of a function do, as an expression and as a declaration
   abbrev AddsFunction : Function → Type 0
-  AddsFunction x = Adds (functions_of_function x) (function_words x).expressed × Adds (functions_of_function x) (function_words x).declared
+  AddsFunction x = Adds (functions_of_function x) (function_occurrences x).expressed × Adds (functions_of_function x) (function_occurrences x).declared
 
   -- those of a property's value do
   abbrev AddsProperty : Property → Type 0
-  AddsProperty x = Adds (functions_of_property x) (property_words x).value
+  AddsProperty x = Adds (functions_of_property x) (property_occurrences x).value
 
   -- an expression of which it is shown
   abbrev ShownExpr : Type 0
@@ -96,33 +97,33 @@ module _ (tables : Tables) (uses : Uses) where
   Layer form = form ShownExpr ShownGoal ShownInit ShownStmt ShownDeclaration ShownFunction ShownProperty
 
   -- expressions one behind the other
-  shown_read : (xs : List ShownExpr) → Adds (flat_map functions_of_expr (map (λ x. x.0) xs)) (all_read (map said (map (λ x. x.0) xs)))
-  shown_read [] = b.adds_none tables uses _ (b.keeps_silent tables uses)
-  shown_read (x ∷ xs) = b.adds_then tables uses (functions_of_expr x.0) (flat_map functions_of_expr (map (λ x. x.0) xs)) (read_of x.0) (all_read (map said (map (λ x. x.0) xs))) (x.1 v.Read) (shown_read xs)
+  shown_read : (xs : List ShownExpr) → Adds (flat_map functions_of_expr (map (λ x. x.0) xs)) (read_all (map expr_collector (map (λ x. x.0) xs)))
+  shown_read [] = b.adds_none scopes uses _ (b.keeps_silent scopes uses)
+  shown_read (x ∷ xs) = b.adds_then scopes uses (functions_of_expr x.0) (flat_map functions_of_expr (map (λ x. x.0) xs)) (read_of x.0) (read_all (map expr_collector (map (λ x. x.0) xs))) (x.1 v.Read) (shown_read xs)
 
   -- statements
-  shown_body : (xs : List ShownStmt) → Adds (flat_map functions_of_stmt (map (λ x. x.0) xs)) (all_said (map stmt_words (map (λ x. x.0) xs)))
-  shown_body [] = b.adds_none tables uses _ (b.keeps_silent tables uses)
-  shown_body (x ∷ xs) = b.adds_then tables uses (functions_of_stmt x.0) (flat_map functions_of_stmt (map (λ x. x.0) xs)) (stmt_words x.0) (all_said (map stmt_words (map (λ x. x.0) xs))) x.1 (shown_body xs)
+  shown_body : (xs : List ShownStmt) → Adds (flat_map functions_of_stmt (map (λ x. x.0) xs)) (collect_all (map stmt_occurrences (map (λ x. x.0) xs)))
+  shown_body [] = b.adds_none scopes uses _ (b.keeps_silent scopes uses)
+  shown_body (x ∷ xs) = b.adds_then scopes uses (functions_of_stmt x.0) (flat_map functions_of_stmt (map (λ x. x.0) xs)) (stmt_occurrences x.0) (collect_all (map stmt_occurrences (map (λ x. x.0) xs))) x.1 (shown_body xs)
 
   -- declarations
-  shown_declarations : (xs : List ShownDeclaration) → Adds (flat_map functions_of_declaration (map (λ x. x.0) xs)) (all_said (map declaration_words (map (λ x. x.0) xs)))
-  shown_declarations [] = b.adds_none tables uses _ (b.keeps_silent tables uses)
-  shown_declarations (x ∷ xs) = b.adds_then tables uses (functions_of_declaration x.0) (flat_map functions_of_declaration (map (λ x. x.0) xs)) (declaration_words x.0) (all_said (map declaration_words (map (λ x. x.0) xs))) x.1 (shown_declarations xs)
+  shown_declarations : (xs : List ShownDeclaration) → Adds (flat_map functions_of_declaration (map (λ x. x.0) xs)) (collect_all (map declaration_occurrences (map (λ x. x.0) xs)))
+  shown_declarations [] = b.adds_none scopes uses _ (b.keeps_silent scopes uses)
+  shown_declarations (x ∷ xs) = b.adds_then scopes uses (functions_of_declaration x.0) (flat_map functions_of_declaration (map (λ x. x.0) xs)) (declaration_occurrences x.0) (collect_all (map declaration_occurrences (map (λ x. x.0) xs))) x.1 (shown_declarations xs)
 
   -- properties
-  shown_values : (xs : List ShownProperty) → Adds (flat_map functions_of_property (map (λ x. x.0) xs)) (all_values (map property_words (map (λ x. x.0) xs)))
-  shown_values [] = b.adds_none tables uses _ (b.keeps_silent tables uses)
-  shown_values (x ∷ xs) = b.adds_then tables uses (functions_of_property x.0) (flat_map functions_of_property (map (λ x. x.0) xs)) (property_words x.0).value (all_values (map property_words (map (λ x. x.0) xs))) x.1 (shown_values xs)
+  shown_values : (xs : List ShownProperty) → Adds (flat_map functions_of_property (map (λ x. x.0) xs)) (all_values (map property_occurrences (map (λ x. x.0) xs)))
+  shown_values [] = b.adds_none scopes uses _ (b.keeps_silent scopes uses)
+  shown_values (x ∷ xs) = b.adds_then scopes uses (functions_of_property x.0) (flat_map functions_of_property (map (λ x. x.0) xs)) (property_occurrences x.0).value (all_values (map property_occurrences (map (λ x. x.0) xs))) x.1 (shown_values xs)
 
-  -- an expression with these functions and these words
-  expr_shown : (x made : Expr) (fs : List Function) (ws : Use → Words) → x ≡ made → functions_of_expr made ≡ fs → ((manner : Use) (p : Spot) (c : Collected) → used_of made manner p c ≡ ws manner p c)
+  -- an expression with these functions and these occurrences
+  expr_shown : (x made : Expr) (fs : List Function) (ws : Use → Collector) → x ≡ made → functions_of_expr made ≡ fs → ((manner : Use) (p : Context) (c : Occurrences) → used_of made manner p c ≡ ws manner p c)
       → ((manner : Use) → Adds fs (ws manner)) → AddsExpr x
-  expr_shown x made fs ws is lists words adds = subst AddsExpr (sym is) (λ manner. b.adds_as tables uses fs (functions_of_expr made) (ws manner) (used_of made manner) lists (words manner) (adds manner))
+  expr_shown x made fs ws is lists occurrences adds = subst AddsExpr (sym is) (λ manner. b.adds_as scopes uses fs (functions_of_expr made) (ws manner) (used_of made manner) lists (occurrences manner) (adds manner))
 
-  -- a statement with these functions and these words
-  stmt_shown : (x made : Stmt) (fs : List Function) (ws : Words) → x ≡ made → functions_of_stmt made ≡ fs → ((p : Spot) (c : Collected) → stmt_words made p c ≡ ws p c) → Adds fs ws → AddsStmt x
-  stmt_shown x made fs ws is lists words adds = subst AddsStmt (sym is) (b.adds_as tables uses fs (functions_of_stmt made) ws (stmt_words made) lists words adds)
+  -- a statement with these functions and these occurrences
+  stmt_shown : (x made : Stmt) (fs : List Function) (ws : Collector) → x ≡ made → functions_of_stmt made ≡ fs → ((p : Context) (c : Occurrences) → stmt_occurrences made p c ≡ ws p c) → Adds fs ws → AddsStmt x
+  stmt_shown x made fs ws is lists occurrences adds = subst AddsStmt (sym is) (b.adds_as scopes uses fs (functions_of_stmt made) ws (stmt_occurrences made) lists occurrences adds)
 
   -- the expression without what is shown of its parts
   abbrev bare_expr : Layer Expr-F → Expr-F Expr Goal Init Stmt Declaration Function Property
@@ -131,24 +132,24 @@ module _ (tables : Tables) (uses : Uses) where
 
   -- two parts, one behind the other
   two : (x y : ShownExpr) (one other : Use) → Adds (functions_of_expr x.0 ++ functions_of_expr y.0) (λ p c. used_of y.0 other p (used_of x.0 one p c))
-  two x y one other = b.adds_then tables uses (functions_of_expr x.0) (functions_of_expr y.0) (used_of x.0 one) (used_of y.0 other) (x.1 one) (y.1 other)
+  two x y one other = b.adds_then scopes uses (functions_of_expr x.0) (functions_of_expr y.0) (used_of x.0 one) (used_of y.0 other) (x.1 one) (y.1 other)
 
   -- a part, and then a list of them
-  listed : (x : ShownExpr) (xs : List ShownExpr) (manner : Use) → Adds (functions_of_expr x.0 ++ flat_map functions_of_expr (map (λ x. x.0) xs)) (λ p c. all_read (map said (map (λ x. x.0) xs)) p (used_of x.0 manner p c))
-  listed x xs manner = b.adds_then tables uses (functions_of_expr x.0) (flat_map functions_of_expr (map (λ x. x.0) xs)) (used_of x.0 manner) (all_read (map said (map (λ x. x.0) xs))) (x.1 manner) (shown_read xs)
+  listed : (x : ShownExpr) (xs : List ShownExpr) (manner : Use) → Adds (functions_of_expr x.0 ++ flat_map functions_of_expr (map (λ x. x.0) xs)) (λ p c. read_all (map expr_collector (map (λ x. x.0) xs)) p (used_of x.0 manner p c))
+  listed x xs manner = b.adds_then scopes uses (functions_of_expr x.0) (flat_map functions_of_expr (map (λ x. x.0) xs)) (used_of x.0 manner) (read_all (map expr_collector (map (λ x. x.0) xs))) (x.1 manner) (shown_read xs)
 
   -- three parts
   three : (x y z : ShownExpr) → Adds (functions_of_expr x.0 ++ functions_of_expr y.0 ++ functions_of_expr z.0) (λ p c. read_of z.0 p (read_of y.0 p (read_of x.0 p c)))
-  three x y z = b.adds_then tables uses (functions_of_expr x.0 ++ functions_of_expr y.0) (functions_of_expr z.0) (λ p c. read_of y.0 p (read_of x.0 p c)) (read_of z.0) (two x y v.Read v.Read) (z.1 v.Read)
+  three x y z = b.adds_then scopes uses (functions_of_expr x.0 ++ functions_of_expr y.0) (functions_of_expr z.0) (λ p c. read_of y.0 p (read_of x.0 p c)) (read_of z.0) (two x y v.Read v.Read) (z.1 v.Read)
 
   -- the properties of an object, behind their keys
-  object_shown : (xs : List ShownProperty) → Adds (flat_map functions_of_property (map (λ x. x.0) xs)) (object_words (map property_words (map (λ x. x.0) xs)))
-  object_shown xs = b.adds_behind tables uses (flat_map functions_of_property (map (λ x. x.0) xs)) (λ p c. repeated_keys p.within [] (map property_words (map (λ x. x.0) xs)) c) (all_values (map property_words (map (λ x. x.0) xs)))
-      (λ n p c le s. b.stands_keys tables uses p.within [] (map property_words (map (λ x. x.0) xs)) n c s) (shown_values xs)
+  object_shown : (xs : List ShownProperty) → Adds (flat_map functions_of_property (map (λ x. x.0) xs)) (object_occurrences (map property_occurrences (map (λ x. x.0) xs)))
+  object_shown xs = b.adds_behind scopes uses (flat_map functions_of_property (map (λ x. x.0) xs)) (λ p c. repeated_keys p.function [] (map property_occurrences (map (λ x. x.0) xs)) c) (all_values (map property_occurrences (map (λ x. x.0) xs)))
+      (λ n p c le s. b.stands_keys scopes uses p.function [] (map property_occurrences (map (λ x. x.0) xs)) n c s) (shown_values xs)
 
   -- a literal
   literal : Adds [] silent
-  literal = b.adds_none tables uses silent (b.keeps_silent tables uses)
+  literal = b.adds_none scopes uses silent (b.keeps_silent scopes uses)
 
   -- of each form of an expression
   expr_layer : (y : Layer Expr-F) → AddsExpr (roll-Expr (bare_expr y))
@@ -166,7 +167,7 @@ module _ (tables : Tables) (uses : Uses) where
       (λ manner. two left right v.Read v.Read)
   expr_layer (Expr-F.Unary at op value) = expr_shown _ _ _ _
       (e.rolls-Unary at op value.0) (l.expr_lists-Unary at op value.0) (w.used-Unary at op value.0)
-      (λ manner. b.adds_behind tables uses (functions_of_expr value.0) (operator_word op (name_of value.0) at.offset) (used_of value.0 (operand_use op)) (b.keeps_operator tables uses op (name_of value.0) at.offset) (value.1 (operand_use op)))
+      (λ manner. b.adds_behind scopes uses (functions_of_expr value.0) (operator_occurrence op (name_of value.0) at.offset) (used_of value.0 (operand_use op)) (b.keeps_operator scopes uses op (name_of value.0) at.offset) (value.1 (operand_use op)))
   expr_layer (Expr-F.Prefix at step target) = expr_shown _ _ _ _
       (e.rolls-Prefix at step target.0) (l.expr_lists-Prefix at step target.0) (w.used-Prefix at step target.0)
       (λ manner. target.1 v.Assigned)
@@ -175,13 +176,13 @@ module _ (tables : Tables) (uses : Uses) where
       (λ manner. target.1 v.Assigned)
   expr_layer (Expr-F.New at callee) = expr_shown _ _ _ _
       (e.rolls-New at callee.0) (l.expr_lists-New at callee.0) (w.used-New at callee.0)
-      (λ manner. b.adds_behind tables uses (functions_of_expr callee.0) (constructed_word (name_of callee.0) at.offset) (read_of callee.0) (b.keeps_constructed tables uses (name_of callee.0) at.offset) (callee.1 v.Read))
+      (λ manner. b.adds_behind scopes uses (functions_of_expr callee.0) (constructed_occurrence (name_of callee.0) at.offset) (read_of callee.0) (b.keeps_constructed scopes uses (name_of callee.0) at.offset) (callee.1 v.Read))
   expr_layer (Expr-F.NewWithArguments at callee es) = expr_shown _ _ _ _
       (e.rolls-NewWithArguments at callee.0 (map (λ x. x.0) es)) (l.expr_lists-NewWithArguments at callee.0 (map (λ x. x.0) es)) (w.used-NewWithArguments at callee.0 (map (λ x. x.0) es))
-      (λ manner. b.adds_behind tables uses (functions_of_expr callee.0 ++ flat_map functions_of_expr (map (λ x. x.0) es)) (constructed_word (name_of callee.0) at.offset) (λ p c. all_read (map said (map (λ x. x.0) es)) p (read_of callee.0 p c)) (b.keeps_constructed tables uses (name_of callee.0) at.offset) (listed callee es v.Read))
+      (λ manner. b.adds_behind scopes uses (functions_of_expr callee.0 ++ flat_map functions_of_expr (map (λ x. x.0) es)) (constructed_occurrence (name_of callee.0) at.offset) (λ p c. read_all (map expr_collector (map (λ x. x.0) es)) p (read_of callee.0 p c)) (b.keeps_constructed scopes uses (name_of callee.0) at.offset) (listed callee es v.Read))
   expr_layer (Expr-F.Call at callee es) = expr_shown _ _ _ _
       (e.rolls-Call at callee.0 (map (λ x. x.0) es)) (l.expr_lists-Call at callee.0 (map (λ x. x.0) es)) (w.used-Call at callee.0 (map (λ x. x.0) es))
-      (λ manner. listed callee es (callee_use (only_text (map said (map (λ x. x.0) es)))))
+      (λ manner. listed callee es (callee_use (only_text (map expr_collector (map (λ x. x.0) es)))))
   expr_layer (Expr-F.Index at object key) = expr_shown _ _ _ _
       (e.rolls-Index at object.0 key.0) (l.expr_lists-Index at object.0 key.0) (w.used-Index at object.0 key.0)
       (λ manner. two object key v.Read v.Read)
@@ -193,7 +194,7 @@ module _ (tables : Tables) (uses : Uses) where
       (λ manner. f.1.0)
   expr_layer (Expr-F.Name at name) = expr_shown _ _ _ _
       (e.rolls-Name at name) (l.expr_lists-Name at name) (w.used-Name at name)
-      (λ manner. b.adds_none tables uses (λ p c. add (use_role manner at.line) at.offset p.within name c) (b.keeps_use tables uses manner at.line at.offset name))
+      (λ manner. b.adds_none scopes uses (λ p c. add (use_kind manner at.line) at.offset p.function name c) (b.keeps_use scopes uses manner at.line at.offset name))
   expr_layer (Expr-F.Null at) = expr_shown _ _ _ _
       (e.rolls-Null at) (l.expr_lists-Null at) (w.used-Null at)
       (λ manner. literal)
@@ -220,29 +221,29 @@ module _ (tables : Tables) (uses : Uses) where
       (λ manner. object_shown ps)
 
   -- an expression that may be absent
-  optional_shown : (o : Option ShownExpr) → Adds (functions_of_optional (option_map (λ x. x.0) o)) (optional (option_map said (option_map (λ x. x.0) o)))
+  optional_shown : (o : Option ShownExpr) → Adds (functions_of_optional (option_map (λ x. x.0) o)) (optional (option_map expr_collector (option_map (λ x. x.0) o)))
   optional_shown None = literal
   optional_shown (Some x) = x.1 v.Read
 
   -- a statement in a loop
-  looped : (x : ShownStmt) → Adds (functions_of_stmt x.0) (λ p. stmt_words x.0 (in_loop p))
-  looped x = b.adds_looped tables uses (functions_of_stmt x.0) (stmt_words x.0) x.1
+  in_loop : (x : ShownStmt) → Adds (functions_of_stmt x.0) (λ p. stmt_occurrences x.0 (within_loop p))
+  in_loop x = b.adds_looped scopes uses (functions_of_stmt x.0) (stmt_occurrences x.0) x.1
 
   -- the parts of a `for`
   for_shown : (init : ShownInit) (test update : Option ShownExpr) (body : ShownStmt)
       → Adds (functions_of_init init.0 ++ functions_of_optional (option_map (λ x. x.0) test) ++ functions_of_optional (option_map (λ x. x.0) update) ++ functions_of_stmt body.0)
-      (λ p c. stmt_words body.0 (in_loop p) (optional (option_map said (option_map (λ x. x.0) update)) p (optional (option_map said (option_map (λ x. x.0) test)) p (init_words init.0 p c))))
+      (λ p c. stmt_occurrences body.0 (within_loop p) (optional (option_map expr_collector (option_map (λ x. x.0) update)) p (optional (option_map expr_collector (option_map (λ x. x.0) test)) p (init_occurrences init.0 p c))))
   for_shown init test update body =
       let one : List Function = functions_of_optional (option_map (λ x. x.0) test) in
       let other : List Function = functions_of_optional (option_map (λ x. x.0) update) in
-      let test_words : Words = optional (option_map said (option_map (λ x. x.0) test)) in
-      let update_words : Words = optional (option_map said (option_map (λ x. x.0) update)) in
-      let turn : Words = λ p. stmt_words body.0 (in_loop p) in
-      let head : Words = λ p c. test_words p (init_words init.0 p c) in
-      b.adds_then tables uses (functions_of_init init.0 ++ one ++ other) (functions_of_stmt body.0) (λ p c. update_words p (head p c)) turn
-      (b.adds_then tables uses (functions_of_init init.0 ++ one) other head update_words
-      (b.adds_then tables uses (functions_of_init init.0) one (init_words init.0) test_words init.1 (optional_shown test)) (optional_shown update))
-      (looped body)
+      let test_words : Collector = optional (option_map expr_collector (option_map (λ x. x.0) test)) in
+      let update_words : Collector = optional (option_map expr_collector (option_map (λ x. x.0) update)) in
+      let turn : Collector = λ p. stmt_occurrences body.0 (within_loop p) in
+      let head : Collector = λ p c. test_words p (init_occurrences init.0 p c) in
+      b.adds_then scopes uses (functions_of_init init.0 ++ one ++ other) (functions_of_stmt body.0) (λ p c. update_words p (head p c)) turn
+      (b.adds_then scopes uses (functions_of_init init.0 ++ one) other head update_words
+      (b.adds_then scopes uses (functions_of_init init.0) one (init_occurrences init.0) test_words init.1 (optional_shown test)) (optional_shown update))
+      (in_loop body)
 
   -- the statement without what is shown of its parts
   abbrev bare_stmt : Layer Stmt-F → Stmt-F Expr Goal Init Stmt Declaration Function Property
@@ -265,17 +266,17 @@ module _ (tables : Tables) (uses : Uses) where
       (value.1 v.Read)
   stmt_layer (Stmt-F.If at test body) = stmt_shown _ _ _ _
       (s.rolls-If at test.0 body.0) (l.stmt_lists-If at test.0 body.0) (w.stmt-If at test.0 body.0)
-      (b.adds_then tables uses (functions_of_expr test.0) (functions_of_stmt body.0) (read_of test.0) (stmt_words body.0) (test.1 v.Read) body.1)
+      (b.adds_then scopes uses (functions_of_expr test.0) (functions_of_stmt body.0) (read_of test.0) (stmt_occurrences body.0) (test.1 v.Read) body.1)
   stmt_layer (Stmt-F.IfElse at test body otherwise) = stmt_shown _ _ _ _
       (s.rolls-IfElse at test.0 body.0 otherwise.0) (l.stmt_lists-IfElse at test.0 body.0 otherwise.0) (w.stmt-IfElse at test.0 body.0 otherwise.0)
-      (b.adds_then tables uses (functions_of_expr test.0 ++ functions_of_stmt body.0) (functions_of_stmt otherwise.0) (λ p c. stmt_words body.0 p (read_of test.0 p c)) (stmt_words otherwise.0)
-      (b.adds_then tables uses (functions_of_expr test.0) (functions_of_stmt body.0) (read_of test.0) (stmt_words body.0) (test.1 v.Read) body.1) otherwise.1)
+      (b.adds_then scopes uses (functions_of_expr test.0 ++ functions_of_stmt body.0) (functions_of_stmt otherwise.0) (λ p c. stmt_occurrences body.0 p (read_of test.0 p c)) (stmt_occurrences otherwise.0)
+      (b.adds_then scopes uses (functions_of_expr test.0) (functions_of_stmt body.0) (read_of test.0) (stmt_occurrences body.0) (test.1 v.Read) body.1) otherwise.1)
   stmt_layer (Stmt-F.DoWhile at body test) = stmt_shown _ _ _ _
       (s.rolls-DoWhile at body.0 test.0) (l.stmt_lists-DoWhile at body.0 test.0) (w.stmt-DoWhile at body.0 test.0)
-      (b.adds_then tables uses (functions_of_stmt body.0) (functions_of_expr test.0) (λ p. stmt_words body.0 (in_loop p)) (read_of test.0) (looped body) (test.1 v.Read))
+      (b.adds_then scopes uses (functions_of_stmt body.0) (functions_of_expr test.0) (λ p. stmt_occurrences body.0 (within_loop p)) (read_of test.0) (in_loop body) (test.1 v.Read))
   stmt_layer (Stmt-F.While at test body) = stmt_shown _ _ _ _
       (s.rolls-While at test.0 body.0) (l.stmt_lists-While at test.0 body.0) (w.stmt-While at test.0 body.0)
-      (b.adds_then tables uses (functions_of_expr test.0) (functions_of_stmt body.0) (read_of test.0) (λ p. stmt_words body.0 (in_loop p)) (test.1 v.Read) (looped body))
+      (b.adds_then scopes uses (functions_of_expr test.0) (functions_of_stmt body.0) (read_of test.0) (λ p. stmt_occurrences body.0 (within_loop p)) (test.1 v.Read) (in_loop body))
   stmt_layer (Stmt-F.For at init None None body) = stmt_shown _ _ _ _
       (s.rolls-For at init.0 None None body.0) (l.stmt_lists-For at init.0 None None body.0) (w.stmt-For at init.0 None None body.0)
       (for_shown init None None body)
@@ -290,14 +291,14 @@ module _ (tables : Tables) (uses : Uses) where
       (for_shown init (Some test) (Some update) body)
   stmt_layer (Stmt-F.ForIn at goal object body) = stmt_shown _ _ _ _
       (s.rolls-ForIn at goal.0 object.0 body.0) (l.stmt_lists-ForIn at goal.0 object.0 body.0) (w.stmt-ForIn at goal.0 object.0 body.0)
-      (b.adds_then tables uses (functions_of_goal goal.0 ++ functions_of_expr object.0) (functions_of_stmt body.0) (λ p c. read_of object.0 p (goal_words goal.0 p c)) (λ p. stmt_words body.0 (in_loop p))
-      (b.adds_then tables uses (functions_of_goal goal.0) (functions_of_expr object.0) (goal_words goal.0) (read_of object.0) goal.1 (object.1 v.Read)) (looped body))
+      (b.adds_then scopes uses (functions_of_goal goal.0 ++ functions_of_expr object.0) (functions_of_stmt body.0) (λ p c. read_of object.0 p (goal_occurrences goal.0 p c)) (λ p. stmt_occurrences body.0 (within_loop p))
+      (b.adds_then scopes uses (functions_of_goal goal.0) (functions_of_expr object.0) (goal_occurrences goal.0) (read_of object.0) goal.1 (object.1 v.Read)) (in_loop body))
   stmt_layer (Stmt-F.Continue at) = stmt_shown _ _ _ _
       (s.rolls-Continue at) (l.stmt_lists-Continue at) (w.stmt-Continue at)
-      (b.adds_none tables uses (jump_words at.offset) (b.keeps_jump tables uses at.offset))
+      (b.adds_none scopes uses (jump_occurrences at.offset) (b.keeps_jump scopes uses at.offset))
   stmt_layer (Stmt-F.Break at) = stmt_shown _ _ _ _
       (s.rolls-Break at) (l.stmt_lists-Break at) (w.stmt-Break at)
-      (b.adds_none tables uses (jump_words at.offset) (b.keeps_jump tables uses at.offset))
+      (b.adds_none scopes uses (jump_occurrences at.offset) (b.keeps_jump scopes uses at.offset))
   stmt_layer (Stmt-F.Return at) = stmt_shown _ _ _ _
       (s.rolls-Return at) (l.stmt_lists-Return at) (w.stmt-Return at)
       literal
@@ -316,9 +317,9 @@ module _ (tables : Tables) (uses : Uses) where
   bare_init = map-Init ShownExpr ShownGoal ShownInit ShownStmt ShownDeclaration ShownFunction ShownProperty
       Expr Goal Init Stmt Declaration Function Property (λ x. x.0) (λ x. x.0) (λ x. x.0) (λ x. x.0) (λ x. x.0) (λ x. x.0) (λ x. x.0)
 
-  -- a loop's start with these functions and these words
-  init_shown : (x made : Init) (fs : List Function) (ws : Words) → x ≡ made → functions_of_init made ≡ fs → ((p : Spot) (c : Collected) → init_words made p c ≡ ws p c) → Adds fs ws → AddsInit x
-  init_shown x made fs ws is lists words adds = subst AddsInit (sym is) (b.adds_as tables uses fs (functions_of_init made) ws (init_words made) lists words adds)
+  -- a loop's start with these functions and these occurrences
+  init_shown : (x made : Init) (fs : List Function) (ws : Collector) → x ≡ made → functions_of_init made ≡ fs → ((p : Context) (c : Occurrences) → init_occurrences made p c ≡ ws p c) → Adds fs ws → AddsInit x
+  init_shown x made fs ws is lists occurrences adds = subst AddsInit (sym is) (b.adds_as scopes uses fs (functions_of_init made) ws (init_occurrences made) lists occurrences adds)
 
   -- of each start
   init_layer : (y : Layer Init-F) → AddsInit (roll-Init (bare_init y))
@@ -332,14 +333,14 @@ module _ (tables : Tables) (uses : Uses) where
   bare_goal = map-Goal ShownExpr ShownGoal ShownInit ShownStmt ShownDeclaration ShownFunction ShownProperty
       Expr Goal Init Stmt Declaration Function Property (λ x. x.0) (λ x. x.0) (λ x. x.0) (λ x. x.0) (λ x. x.0) (λ x. x.0) (λ x. x.0)
 
-  -- a goal with these functions and these words
-  goal_shown : (x made : Goal) (fs : List Function) (ws : Words) → x ≡ made → functions_of_goal made ≡ fs → ((p : Spot) (c : Collected) → goal_words made p c ≡ ws p c) → Adds fs ws → AddsGoal x
-  goal_shown x made fs ws is lists words adds = subst AddsGoal (sym is) (b.adds_as tables uses fs (functions_of_goal made) ws (goal_words made) lists words adds)
+  -- a goal with these functions and these occurrences
+  goal_shown : (x made : Goal) (fs : List Function) (ws : Collector) → x ≡ made → functions_of_goal made ≡ fs → ((p : Context) (c : Occurrences) → goal_occurrences made p c ≡ ws p c) → Adds fs ws → AddsGoal x
+  goal_shown x made fs ws is lists occurrences adds = subst AddsGoal (sym is) (b.adds_as scopes uses fs (functions_of_goal made) ws (goal_occurrences made) lists occurrences adds)
 
   -- of each goal
   goal_layer : (y : Layer Goal-F) → AddsGoal (roll-Goal (bare_goal y))
   goal_layer (Goal-F.Variable at name_at name) = goal_shown _ _ _ _ (g.rolls-Variable at name_at name) (l.goal_lists-Variable at name_at name) (w.goal-Variable at name_at name)
-      (b.adds_none tables uses _ (b.keeps_word tables uses r.Variable name_at.offset name tt))
+      (b.adds_none scopes uses _ (b.keeps_word scopes uses r.Variable name_at.offset name tt))
   goal_layer (Goal-F.Target value) = goal_shown _ _ _ _ (g.rolls-Target value.0) (l.goal_lists-Target value.0) (w.goal-Target value.0) (value.1 v.Assigned)
 
   -- the property without what is shown of its parts
@@ -351,7 +352,7 @@ module _ (tables : Tables) (uses : Uses) where
   property_layer : (y : Layer Property-F) → AddsProperty (roll-Property (bare_property y))
   property_layer y =
       let x : Property = roll-Property (bare_property y) in
-      b.adds_as tables uses (functions_of_expr y.value.0) (functions_of_property x) (read_of y.value.0) (property_words x).value (l.property_lists x) (w.property-value x) (y.value.1 v.Read)
+      b.adds_as scopes uses (functions_of_expr y.value.0) (functions_of_property x) (read_of y.value.0) (property_occurrences x).value (l.property_lists x) (w.property-value x) (y.value.1 v.Read)
 
   -- the function without what is shown of its parts
   abbrev bare_function : Layer Function-F → Function-F Expr Goal Init Stmt Declaration Function Property
@@ -363,10 +364,10 @@ module _ (tables : Tables) (uses : Uses) where
   function_layer y =
       let f : Function = roll-Function (bare_function y) in
       let fs : List Function = flat_map functions_of_stmt f.body in (
-        b.adds_as tables uses (f ∷ fs) (functions_of_function f) _ (function_words f).expressed (l.function_lists f) (w.function-expressed f)
-            (b.adds_expressed tables uses f fs f.name f.name_offset f.parameters f.parameter_offsets (map stmt_words f.body) f.line f.offset (shown_body y.body)),
-        b.adds_as tables uses (f ∷ fs) (functions_of_function f) _ (function_words f).declared (l.function_lists f) (w.function-declared f)
-            (b.adds_declared tables uses f fs f.name f.name_offset f.parameters f.parameter_offsets (map stmt_words f.body) f.line f.offset (shown_body y.body)),
+        b.adds_as scopes uses (f ∷ fs) (functions_of_function f) _ (function_occurrences f).expressed (l.function_lists f) (w.function-expressed f)
+            (b.adds_expressed scopes uses f fs f.name f.name_offset f.parameters f.parameter_offsets (map stmt_occurrences f.body) f.line f.offset (shown_body y.body)),
+        b.adds_as scopes uses (f ∷ fs) (functions_of_function f) _ (function_occurrences f).declared (l.function_lists f) (w.function-declared f)
+            (b.adds_declared scopes uses f fs f.name f.name_offset f.parameters f.parameter_offsets (map stmt_occurrences f.body) f.line f.offset (shown_body y.body)),
       )
 
   -- the declaration without what is shown of its parts
@@ -375,9 +376,9 @@ module _ (tables : Tables) (uses : Uses) where
       Expr Goal Init Stmt Declaration Function Property (λ x. x.0) (λ x. x.0) (λ x. x.0) (λ x. x.0) (λ x. x.0) (λ x. x.0) (λ x. x.0)
 
   -- a declaration whose value is shown
-  declaration_shown : (d : Declaration) → Adds (functions_of_optional d.value) (optional (option_map said d.value)) → AddsDeclaration d
-  declaration_shown d adds = b.adds_as tables uses (functions_of_optional d.value) (functions_of_declaration d) _ (declaration_words d) (l.declaration_lists d) (w.declaration-is d)
-      (b.adds_behind tables uses (functions_of_optional d.value) (λ p c. add r.Variable d.at.offset p.within d.name c) (optional (option_map said d.value)) (b.keeps_word tables uses r.Variable d.at.offset d.name tt) adds)
+  declaration_shown : (d : Declaration) → Adds (functions_of_optional d.value) (optional (option_map expr_collector d.value)) → AddsDeclaration d
+  declaration_shown d adds = b.adds_as scopes uses (functions_of_optional d.value) (functions_of_declaration d) _ (declaration_occurrences d) (l.declaration_lists d) (w.declaration-is d)
+      (b.adds_behind scopes uses (functions_of_optional d.value) (λ p c. add r.Variable d.at.offset p.function d.name c) (optional (option_map expr_collector d.value)) (b.keeps_word scopes uses r.Variable d.at.offset d.name tt) adds)
 
   -- with a value or without
   declaration_of : (at : At) (name : List ℕ) (value : Option ShownExpr) → AddsDeclaration (roll-Declaration (bare_declaration (record { at = at; name = name; value = value })))
@@ -400,6 +401,6 @@ module _ (tables : Tables) (uses : Uses) where
       (λ x y is. subst (λ z. AddsProperty (roll-Property z)) is (property_layer y))
 
   -- of the statements of a body
-  pub adds_body : (xs : List Stmt) → Adds (flat_map functions_of_stmt xs) (all_said (map stmt_words xs))
+  pub adds_body : (xs : List Stmt) → Adds (flat_map functions_of_stmt xs) (collect_all (map stmt_occurrences xs))
   adds_body [] = literal
-  adds_body (x ∷ xs) = b.adds_then tables uses (functions_of_stmt x) (flat_map functions_of_stmt xs) (stmt_words x) (all_said (map stmt_words xs)) (adds_stmt x) (adds_body xs)
+  adds_body (x ∷ xs) = b.adds_then scopes uses (functions_of_stmt x) (flat_map functions_of_stmt xs) (stmt_occurrences x) (collect_all (map stmt_occurrences xs)) (adds_stmt x) (adds_body xs)

@@ -14,7 +14,7 @@ use Rattle.mdg_scope.specs.declared.bound.BoundFunction.{BoundFunction}
 use Rattle.mdg_scope.specs.declared.bound.Goal.{Goal}
 use Rattle.mdg_scope.specs.declared.bound.Goal.TheVariants as goal
 use Rattle.mdg_scope.specs.declared.bound.Require.{Require}
-use Rattle.mdg_scope.specs.Meaning.{globals_from}
+use Rattle.mdg_scope.specs.Resolution.{globals_from}
 use Rattle.mdg_scope.specs.Names.{has_name, add_name, place_of}
 use Rattle.mdg_lower.specs.declared.scope.Frame.{Frame}
 use Rattle.mdg_lower.specs.declared.scope.Meaning.{Meaning}

@@ -8,7 +8,7 @@ use Rattle.mdg_scope.specs.declared.bound.BoundFunction.{BoundFunction}
 use Rattle.mdg_scope.specs.declared.bound.Goal.{Goal}
 use Rattle.mdg_scope.specs.declared.bound.Goal.TheVariants as goal
 use Rattle.mdg_scope.specs.declared.bound.Require.{Require}
-use Rattle.mdg_scope.specs.Meaning.{globals_from}
+use Rattle.mdg_scope.specs.Resolution.{globals_from}
 use Rattle.mdg_lower.specs.declared.scope.Frame.{Frame}
 use Rattle.mdg_lower.specs.declared.scope.Scope.{Scope}
 use Rattle.mdg_lower.specs.declared.scope.Wanted.{Wanted}

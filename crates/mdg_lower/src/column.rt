@@ -6,7 +6,7 @@ ghost use Rattle.mdg_lower.specs.Columns as columns_of;
 
 use crate::draft::{Draft, DraftLine};
 use mdg_base::{Column, Items, NoMemory, Text};
-use mdg_scope::NameTable;
+use mdg_scope::Names;
 use std::alloc::Global;
 use std::marker::Model;
 
@@ -63,7 +63,7 @@ pub fn counted(number: usize) -> Result<u32, NoMemory>
 /// The names that have a column, for look-ups. Contracts see it as their list.
 #[derive(Drop)]
 pub struct ColumnTable<'a> {
-    names: NameTable<'a>,
+    names: Names<'a>,
     count: u32,
 }
 
@@ -82,7 +82,7 @@ impl<'a> ColumnTable<'a> {
     pub fn of(alloc: Global, columns: &'a [Text]) -> Result<ColumnTable<'a>, NoMemory>
         ensures { IfOk result (λ t. t ≡ columns_of.add_names [] columns.now) }
     {
-        let mut names = NameTable::create(alloc);
+        let mut names = Names::create(alloc);
         let mut count: u32 = 0;
         for column in columns {
             count = add_counted(&mut names, count, column.as_str())?;
@@ -102,7 +102,7 @@ impl<'a> ColumnTable<'a> {
 }
 
 /// Puts the name behind the others, unless it is there. From their number the answer is the new number.
-fn add_counted<'a>(names: &mut NameTable<'a>, count: u32, name: &'a str) -> Result<u32, NoMemory>
+fn add_counted<'a>(names: &mut Names<'a>, count: u32, name: &'a str) -> Result<u32, NoMemory>
     ensures names { OnOk result (names.new ≡ add_name names.old name.now) }
     ensures count { IfOk result (λ n. count ≡ length names.old → n ≡ length names.new) }
 {
@@ -114,7 +114,7 @@ fn add_counted<'a>(names: &mut NameTable<'a>, count: u32, name: &'a str) -> Resu
 }
 
 fn put_name<'a>(
-    table: &mut NameTable<'a>,
+    table: &mut Names<'a>,
     columns: &mut Items<Text>,
     alloc: Global,
     name: &'a str,
@@ -129,7 +129,7 @@ fn put_name<'a>(
 }
 
 fn put_draft<'a>(
-    table: &mut NameTable<'a>,
+    table: &mut Names<'a>,
     columns: &mut Items<Text>,
     alloc: Global,
     draft: &'a Draft,
@@ -150,7 +150,7 @@ fn put_draft<'a>(
 pub fn column_names(alloc: Global, lines: &[DraftLine]) -> Result<Items<Text>, NoMemory>
     ensures { IfOk result (λ c. c ≡ columns_of.columns_in lines.now) }
 {
-    let mut table = NameTable::create(alloc);
+    let mut table = Names::create(alloc);
     let mut columns = Items::create(alloc);
     for line in lines {
         put_draft(&mut table, &mut columns, alloc, &line.draft)?;

@@ -1,7 +1,7 @@
 //! The scopes of a file's functions.
 
 ghost use Rattle.std.specs.Prelude.{◌≡◌, ◌+◌, ◌++◌, ◌∷◌, [], OnOk, IfOk, map, length, slice_get, if◌then◌else◌};
-ghost use Rattle.mdg_scope.specs.Meaning.{globals_from, is_global};
+ghost use Rattle.mdg_scope.specs.Resolution.{globals_from, is_global};
 ghost use Rattle.mdg_scope.specs.Names.{add_name};
 ghost use Rattle.mdg_lower.specs.Columns.{add_names};
 ghost use Rattle.mdg_lower.specs.Entering as enter;
@@ -13,10 +13,10 @@ use crate::offsets::OffsetTable;
 use crate::scope::{Frame, Scope, Wanted};
 use mdg_base::{CellId, FileId, FunId, Home, Items, NoMemory, Text};
 use mdg_profile::{Entry, Profile};
-use mdg_scope::{Bound, BoundFunction, Goal, NameTable, Require};
+use mdg_scope::{Bound, BoundFunction, Goal, Names, Require};
 use std::alloc::Global;
 
-fn add_all<'a>(table: &mut NameTable<'a>, names: &'a [Text]) -> Result<(), NoMemory>
+fn add_all<'a>(table: &mut Names<'a>, names: &'a [Text]) -> Result<(), NoMemory>
     ensures { OnOk result (table.new ≡ add_names table.old names.now) }
 {
     for name in names {
@@ -25,27 +25,27 @@ fn add_all<'a>(table: &mut NameTable<'a>, names: &'a [Text]) -> Result<(), NoMem
     Ok(())
 }
 
-fn locals_of<'a>(alloc: Global, function: &'a BoundFunction) -> Result<NameTable<'a>, NoMemory>
+fn locals_of<'a>(alloc: Global, function: &'a BoundFunction) -> Result<Names<'a>, NoMemory>
     ensures { IfOk result (λ t. t ≡ add_names (add_names [] function.now.parameters) function.now.locals) }
 {
-    let mut table = NameTable::create(alloc);
+    let mut table = Names::create(alloc);
     add_all(&mut table, function.parameters.as_slice())?;
     add_all(&mut table, function.locals.as_slice())?;
     Ok(table)
 }
 
-fn cells_of<'a>(alloc: Global, function: &'a BoundFunction) -> Result<NameTable<'a>, NoMemory>
+fn cells_of<'a>(alloc: Global, function: &'a BoundFunction) -> Result<Names<'a>, NoMemory>
     ensures { IfOk result (λ t. t ≡ add_names [] function.now.cells) }
 {
-    let mut table = NameTable::create(alloc);
+    let mut table = Names::create(alloc);
     add_all(&mut table, function.cells.as_slice())?;
     Ok(table)
 }
 
-fn own_of<'a>(alloc: Global, function: &'a BoundFunction) -> Result<NameTable<'a>, NoMemory>
+fn own_of<'a>(alloc: Global, function: &'a BoundFunction) -> Result<Names<'a>, NoMemory>
     ensures { IfOk result (λ t. t ≡ enter.own_names function.now.own_name function.now.name) }
 {
-    let mut table = NameTable::create(alloc);
+    let mut table = Names::create(alloc);
     if function.own_name {
         if let Some(name) = &function.name {
             table.add(name.as_str())?;
@@ -113,7 +113,7 @@ pub fn modules_of(alloc: Global, files: &[Bound]) -> Result<Items<CellId>, NoMem
     Ok(made)
 }
 
-fn put_global<'a>(table: &mut NameTable<'a>, entry: &'a Entry) -> Result<(), NoMemory>
+fn put_global<'a>(table: &mut Names<'a>, entry: &'a Entry) -> Result<(), NoMemory>
     ensures { OnOk result (table.new ≡ (if is_global entry.now.home then add_name table.old entry.now.name else table.old)) }
 {
     if matches!(entry.home, Home::Global) {
@@ -122,10 +122,10 @@ fn put_global<'a>(table: &mut NameTable<'a>, entry: &'a Entry) -> Result<(), NoM
     Ok(())
 }
 
-fn globals<'a>(alloc: Global, entries: &'a [Entry]) -> Result<NameTable<'a>, NoMemory>
+fn globals<'a>(alloc: Global, entries: &'a [Entry]) -> Result<Names<'a>, NoMemory>
     ensures { IfOk result (λ t. t ≡ globals_from [] entries.now) }
 {
-    let mut table = NameTable::create(alloc);
+    let mut table = Names::create(alloc);
     for entry in entries {
         put_global(&mut table, entry)?;
     }

@@ -6,7 +6,7 @@ ghost use Rattle.mdg_lower.specs.Naming as naming;
 
 use crate::scope::{Frame, Meaning, Scope, Wanted};
 use mdg_base::{CellId, FunId, Local, NoMemory};
-use mdg_scope::NameTable;
+use mdg_scope::Names;
 
 /// One more than a number of a temporary or a line.
 pub fn after(number: u32) -> Result<u32, NoMemory>
@@ -103,7 +103,7 @@ fn is_literal(name: &str) -> bool
     name == "undefined" || name == "NaN" || name == "Infinity"
 }
 
-fn free_meaning<'a>(globals: &NameTable<'a>, name: &str) -> Meaning
+fn free_meaning<'a>(globals: &Names<'a>, name: &str) -> Meaning
     ensures { result ≡ naming.free_meaning globals.now name.now }
 {
     if name == "require" {

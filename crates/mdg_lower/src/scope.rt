@@ -2,19 +2,19 @@
 
 use crate::offsets::OffsetTable;
 use mdg_base::{CellId, FileId, FunId, Items, Local, Text};
-use mdg_scope::NameTable;
+use mdg_scope::Names;
 
 /// The names that a function binds.
 #[derive(Drop)]
 pub struct Frame<'a> {
     /// The parameters, and then the other names that are no cells. Each has the local of its number.
-    pub locals: NameTable<'a>,
+    pub locals: Names<'a>,
 
     /// The names that are cells.
-    pub cells: NameTable<'a>,
+    pub cells: Names<'a>,
 
     /// The function's own name, where it means the function itself.
-    pub own: NameTable<'a>,
+    pub own: Names<'a>,
 
     /// The number of its first cell.
     pub first_cell: u32,
@@ -62,7 +62,7 @@ pub struct Scope<'a> {
     pub module: CellId,
 
     /// The globals of the profile.
-    pub globals: NameTable<'a>,
+    pub globals: Names<'a>,
 
     /// The number of the file's body.
     pub first_function: u32,

@@ -5,14 +5,14 @@ ghost use Rattle.mdg_scope.specs.Names.{has_name};
 ghost use Rattle.mdg_lower.specs.Seeing as seeing;
 
 use mdg_base::{Home, NoMemory};
-use mdg_scope::NameTable;
+use mdg_scope::Names;
 use std::alloc::Global;
 
 /// The names that were seen, by home.
 #[derive(Drop)]
 pub struct Seen<'a> {
-    globals: NameTable<'a>,
-    modules: NameTable<'a>,
+    globals: Names<'a>,
+    modules: Names<'a>,
 }
 
 impl<'a> Seen<'a> {
@@ -21,8 +21,8 @@ impl<'a> Seen<'a> {
         ensures { result ≡ seeing.seen_in [] }
     {
         Seen {
-            globals: NameTable::create(alloc),
-            modules: NameTable::create(alloc),
+            globals: Names::create(alloc),
+            modules: Names::create(alloc),
         }
     }
 

@@ -43,7 +43,7 @@ impl From<NoMemory> for FolderFault {
     }
 }
 
-/// A folder whose files are read whole, by paths from its root with `/` between their parts.
+/// A folder whose files are read whole, by paths from its root with `/` between their segments.
 pub trait Folder {
     /// What it holds, where it tells that.
     ghost held: { Self → Option Held };

@@ -14,7 +14,7 @@ use std::marker::Model;
 pub struct MemFolder {
     alloc: Global,
 
-    // the newest first: a file that was replaced stays behind the one that replaced it
+    // the newest first: a file that was replaced stays after the one that replaced it
     files: VecDeque<(Text, Items<u8>)>,
     reads: u64,
 }

@@ -16,7 +16,7 @@ use Rattle.mdg_tree.specs.declared.tree.Function.{Function}
 use Rattle.mdg_tree.specs.declared.tree.Declaration.{Declaration}
 use Rattle.mdg_tree.specs.declared.operator.BinaryOperator.{BinaryOperator}
 use Rattle.mdg_tree.specs.declared.operator.BinaryOperator.TheVariants as binary
-use Rattle.mdg_tree.specs.Height as heights
+use Rattle.mdg_tree.proofs.Heights as heights
 use Rattle.mdg_tree.specs.Height.{height, stmt_height, init_height, goal_height, property_height, function_height, declaration_height, highest, optional, head_height}
 use Rattle.mdg_read.specs.declared.sign.Sign.{Sign}
 use Rattle.mdg_read.specs.declared.sign.Sign.TheVariants as s

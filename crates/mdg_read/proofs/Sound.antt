@@ -20,7 +20,7 @@ use Rattle.mdg_tree.specs.declared.operator.UnaryOperator.{UnaryOperator}
 use Rattle.mdg_tree.specs.declared.operator.AssignOperator.{AssignOperator}
 use Rattle.mdg_tree.specs.declared.operator.AssignOperator.TheVariants as assign
 use Rattle.mdg_tree.specs.declared.operator.Step.{Step}
-use Rattle.mdg_tree.specs.Height as heights
+use Rattle.mdg_tree.proofs.Heights as heights
 use Rattle.mdg_tree.specs.Height.{height, stmt_height, init_height, goal_height, property_height, function_height, declaration_height, highest, optional, head_height}
 use Rattle.mdg_read.specs.declared.sign.Sign.{Sign}
 use Rattle.mdg_read.specs.declared.sign.Sign.TheVariants as s

@@ -1,10 +1,9 @@
 -- What is answered.
 use Rattle.std.proofs.Common.{◌≡◌, ◌≢◌, ◌⊎◌, inl, inr, ⊎_elim, List, [], ◌∷◌, ◌++◌, ℕ, suc, ◌+◌, ◌<◌, ◌≤◌, ◌^◌, length, refl, sym, ◌∙◌, ap, subst, arith, get_or, take}
-use Rattle.std.specs.Prelude.{Contains}
+use Rattle.std.specs.Prelude.{Contains, codes}
 use mathlib.Core.List.{append_assoc}
 use Rattle.std.proofs.lemmas.List.{append-nil, take_more}
 use Rattle.mdg_port.specs.Held.{Held}
-use Rattle.mdg_port.specs.Reads.{fetched}
 use Rattle.mdg_port.specs.declared.folder.Fetched.{Fetched}
 use Rattle.mdg_port.specs.declared.folder.Fetched.TheVariants.{Absent, TooLong, Bytes}
 use Rattle.mdg_scan.specs.declared.command.Task.{Task}
@@ -17,7 +16,7 @@ use Rattle.mdg_scan.specs.declared.first.form.FormFunction.{FormFunction}
 use Rattle.mdg_scan.specs.declared.reply.Reply.{Reply}
 use Rattle.mdg_scan.specs.declared.status.Status.{Status}
 use Rattle.mdg_scan.specs.declared.status.Status.TheVariants.{Clean, Findings, Refused}
-use Rattle.mdg_scan.specs.Answer.{IsReport, IsReadingAnswer, IsFileAnswer, IsAnswerWhere, IsAnswer, task_by, index, index_limit}
+use Rattle.mdg_scan.specs.Answer.{IsReport, IsReadingAnswer, IsFileAnswer, IsReadReply, IsScanReply, IsUnreadReply, IsReplyWhere, IsReply, IsAnswer, ReadResult, found, failed, told, asked_for, task_by, refused, usage_reply}
 use Rattle.mdg_scan.specs.CodeShape.{IsWellFormed}
 use Rattle.mdg_scan.specs.Flows.{AreFlows}
 use Rattle.mdg_scan.specs.Form.{Reading, not_strict, no_tree, in_form}
@@ -43,13 +42,29 @@ one_file Absent one other first last = first ∙ sym last
 one_file TooLong one other first last = first ∙ sym last
 one_file (Bytes bytes) one other first last = one_reading _ one other first last
 
-one_where : (asked : Task) (held : Held) (one other : Reply) → IsAnswerWhere asked held one → IsAnswerWhere asked held other → one ≡ other
-one_where task.Scan held one other first last = one_file (fetched held index index_limit) one other first last
-one_where task.NotBuilt held one other first last = first ∙ sym last
-one_where task.Usage held one other first last = first ∙ sym last
+one_read : (given : ReadResult) (one other : Reply) → IsReadReply given one → IsReadReply given other → one ≡ other
+one_read (found f) one other first last = one_file f one other first last
+one_read failed one other first last = first ∙ sym last
+
+one_scan : (given : List ReadResult) (one other : Reply) → IsScanReply given one → IsScanReply given other → one ≡ other
+one_scan [] one other first last = elim first [ ]
+one_scan (r ∷ []) one other first last = one_read r one other first last
+one_scan (r ∷ (_ ∷ _)) one other first last = elim first [ ]
+
+one_unread : (wanted : Reply) (given : List ReadResult) (one other : Reply) → IsUnreadReply wanted given one → IsUnreadReply wanted given other → one ≡ other
+one_unread wanted [] one other first last = first ∙ sym last
+one_unread wanted (_ ∷ _) one other first last = elim first [ ]
+
+one_where : (asked : Task) (given : List ReadResult) (one other : Reply) → IsReplyWhere asked given one → IsReplyWhere asked given other → one ≡ other
+one_where task.Scan given one other first last = one_scan given one other first last
+one_where task.NotBuilt given one other first last = one_unread (refused (codes "NotBuilt")) given one other first last
+one_where task.Usage given one other first last = one_unread usage_reply given one other first last
+
+pub one_reply : (words : List (List ℕ)) (given : List ReadResult) (one other : Reply) → IsReply words given one → IsReply words given other → one ≡ other
+one_reply words given one other first last = one_where (task_by words) given one other first last
 
 pub one_answer : (words : List (List ℕ)) (held : Held) (one other : Reply) → IsAnswer words held one → IsAnswer words held other → one ≡ other
-one_answer words held one other first last = one_where (task_by words) held one other first last
+one_answer words held one other first last = one_where (task_by words) (told held (asked_for (task_by words))) one other first last
 
 -- ---- the flows of the grown facts are those of the graph
 

@@ -70,21 +70,58 @@ IsFileAnswer Absent reply = reply ≡ refused (codes "NoFile index.js")
 IsFileAnswer TooLong reply = reply ≡ refused (codes "TooLong index.js")
 IsFileAnswer (Bytes bytes) reply = IsReadingAnswer (read_of bytes) reply
 
--- what is answered for each task
-abbrev pub IsAnswerWhere : Task → Held → Reply → Type 0
-IsAnswerWhere task.Scan held reply = IsFileAnswer (fetched held index index_limit) reply
-IsAnswerWhere task.NotBuilt held reply = reply ≡ refused (codes "NotBuilt")
-IsAnswerWhere task.Usage held reply = reply ≡ usage_reply
+-- what a read gave
+pub data ReadResult : Type 0 where
+  -- what stands at the path
+  found : Fetched → ReadResult
+  -- nothing: the read failed
+  failed : ReadResult
 
--- the answer for these words and a folder that holds this; there is never another one
-abbrev pub IsAnswer : List (List ℕ) → Held → Reply → Type 0
-IsAnswer words held reply = IsAnswerWhere (task_by words) held reply
+-- the reply where the one file was read
+abbrev pub IsReadReply : ReadResult → Reply → Type 0
+IsReadReply (found fetched) reply = IsFileAnswer fetched reply
+IsReadReply failed reply = reply ≡ read_fault index
 
+-- the reply to a scan: it reads once
+abbrev pub IsScanReply : List ReadResult → Reply → Type 0
+IsScanReply [] reply = ⊥
+IsScanReply (one ∷ []) reply = IsReadReply one reply
+IsScanReply (one ∷ other ∷ more) reply = ⊥
+
+-- the reply is this one, and nothing is read for it
+abbrev pub IsUnreadReply : Reply → List ReadResult → Reply → Type 0
+IsUnreadReply wanted [] reply = reply ≡ wanted
+IsUnreadReply wanted (one ∷ more) reply = ⊥
+
+-- the reply to a task, by what its reads gave
+abbrev pub IsReplyWhere : Task → List ReadResult → Reply → Type 0
+IsReplyWhere task.Scan given reply = IsScanReply given reply
+IsReplyWhere task.NotBuilt given reply = IsUnreadReply (refused (codes "NotBuilt")) given reply
+IsReplyWhere task.Usage given reply = IsUnreadReply usage_reply given reply
+
+-- the reply to these words, by what the reads gave, in their order; there is never another one
+abbrev pub IsReply : List (List ℕ) → List ReadResult → Reply → Type 0
+IsReply words given reply = IsReplyWhere (task_by words) given reply
+
+-- the paths that are read for a task
 abbrev pub asked_for : Task → List (List ℕ)
 asked_for task.Scan = index ∷ []
 asked_for task.NotBuilt = []
 asked_for task.Usage = []
 
--- the paths that are read
+-- the paths that are read for these words
 abbrev pub asks : List (List ℕ) → Held → List (List ℕ)
 asks words held = asked_for (task_by words)
+
+-- what a folder that holds this gives for paths
+abbrev pub told : Held → List (List ℕ) → List ReadResult
+told held [] = []
+told held (path ∷ paths) = found (fetched held path index_limit) ∷ told held paths
+
+-- the answer to a task and a folder that holds this: the reply where each read gives what is held
+abbrev pub IsAnswerWhere : Task → Held → Reply → Type 0
+IsAnswerWhere task held reply = IsReplyWhere task (told held (asked_for task)) reply
+
+-- the answer to these words and a folder that holds this; there is never another one
+abbrev pub IsAnswer : List (List ℕ) → Held → Reply → Type 0
+IsAnswer words held reply = IsAnswerWhere (task_by words) held reply

@@ -1,16 +1,16 @@
 ghost use Rattle.std.specs.Prelude.{◌≡◌, ◌≢◌, ◌⊎◌, ◌≤◌, ◌<◌, ◌-◌, ◌^◌, ℕ, List, Some, IfOk, IfSome};
-ghost use Rattle.std.specs.Io.KnownBytes.{Appends, Keeps};
-ghost use Rattle.mdg_port.specs.Bytes.{AppendsProperFront};
+ghost use Rattle.std.specs.Io.KnownBytes.{Keeps};
 ghost use Rattle.mdg_port.specs.Causes.{Rose, Stood};
 ghost use Rattle.mdg_port.specs.Held.{Held};
 ghost use Rattle.mdg_port.specs.Reads.{IsWithin};
 ghost use Rattle.mdg_scan.specs.Answer as answer;
-ghost use Rattle.mdg_scan.specs.Answer.{IsAnswer, IsFileAnswer, asks, index, read_fault, usage_reply};
+ghost use Rattle.mdg_scan.specs.Answer.{IsAnswer, IsFileAnswer, IsReply, ReadResult, asks, usage_reply};
 ghost use Rattle.mdg_scan.specs.Words.{texts_of};
-ghost use Rattle.mdg_scan.specs.Scan.{IsAnswerBegun, IsAnswered, IsSomeAnswer, IsSomeAnswered, IsSomeFaultWritten, IsSomeReadFault, IsToldAnswer, IsWhole, IsWritten, ReadAll, TellsLastRead, fault_answer};
+ghost use Rattle.mdg_scan.specs.Scan.{IsSomeReply, IsToldAnswer, IsWhole, IsWrittenInPart, IsWrittenWhole, ReadAll, TellsFailedRead};
 ghost use Rattle.mdg_scan.specs.declared.reply.Reply.{Reply};
 
-use crate::first::{answer_of_file, refused};
+use crate::first::answer_of_file;
+use crate::reply::{read_fault, refused};
 use crate::words::{Command, WordsRefusal, read_words};
 use crate::{Reply, Status};
 use mdg_base::{NoMemory, Text};
@@ -39,27 +39,36 @@ pub fn scan<R: Threads + Sync, F: Folder, S: Sink, G: Gate>(
     // Where no call failed, the answer is the one that is defined, and exactly its text is written.
     ensures answered { IfSome (F.held folder.old) (λ held.
         Stood (F.faults folder.old) (F.faults folder.new) → Stood (S.faults out.old) (S.faults out.new) → result ≢ Status.NoMemory
-        → IsAnswered (texts_of words.now) held result (S.written out.old) (S.written out.new)) }
+        → IsWrittenWhole (IsAnswer (texts_of words.now) held) result (S.written out.old) (S.written out.new)) }
 
     // Each answer from `Clean` to `Usage` is the defined one, and is written whole.
     ensures whole { IsWhole result → IfSome (F.held folder.old) (λ held.
-        IsAnswered (texts_of words.now) held result (S.written out.old) (S.written out.new)) }
-    ensures some_whole { IsWhole result → IsSomeAnswered (texts_of words.now) result (S.written out.old) (S.written out.new) }
+        IsWrittenWhole (IsAnswer (texts_of words.now) held) result (S.written out.old) (S.written out.new)) }
 
-    // A failed read is told whole, with the path that was read last.
+    // A failed read is told whole, with its path, which is the one that was read last.
     ensures fault { result ≡ Status.ReadFault → Rose (F.faults folder.old) (F.faults folder.new) }
-    ensures fault_path { result ≡ Status.ReadFault → IfSome (F.held folder.old) (λ held. F.reads folder.new < 2 ^ 64 - 1
-        → IsWritten (fault_answer (texts_of words.now) held (F.reads folder.old) (F.reads folder.new)) result (S.written out.old) (S.written out.new)) }
-    ensures some_fault { result ≡ Status.ReadFault → IsSomeFaultWritten (S.written out.old) (S.written out.new) }
+    ensures fault_path { result ≡ Status.ReadFault → IfSome (F.held folder.old) (λ held.
+        IsWrittenWhole (TellsFailedRead (asks (texts_of words.now) held) (F.reads folder.old) (F.reads folder.new)) result
+        (S.written out.old) (S.written out.new)) }
 
-    // A failed write leaves a proper front of the text that was to be written.
+    // Whatever the folder is: but for a failed write the reply by what its reads gave is written whole.
+    ensures written { result ≢ Status.WriteFault → result ≢ Status.NoMemory
+        → IsWrittenWhole (IsSomeReply (texts_of words.now) (F.faults folder.old) (F.faults folder.new)) result
+        (S.written out.old) (S.written out.new) }
+
+    // After a failed write a proper prefix of that reply is written. Where the folder tells what it holds, it is the
+    // defined answer, or, only where a read failed, tells the path of that read.
     ensures write_fault { result ≡ Status.WriteFault → Rose (S.faults out.old) (S.faults out.new) }
-    ensures front { result ≡ Status.WriteFault → IfSome (F.held folder.old) (λ held. F.reads folder.new < 2 ^ 64 - 1
-        → IsAnswerBegun (texts_of words.now) held (S.written out.old) (S.written out.new)
+    ensures prefix { result ≡ Status.WriteFault
+        → IsWrittenInPart (IsSomeReply (texts_of words.now) (F.faults folder.old) (F.faults folder.new))
+        (S.written out.old) (S.written out.new) }
+    ensures told_prefix { result ≡ Status.WriteFault → IfSome (F.held folder.old) (λ held.
+        IsWrittenInPart (IsAnswer (texts_of words.now) held) (S.written out.old) (S.written out.new)
         ⊎ (Rose (F.faults folder.old) (F.faults folder.new)
-        × AppendsProperFront (S.written out.old) (S.written out.new)
-        (fault_answer (texts_of words.now) held (F.reads folder.old) (F.reads folder.new)).text)) }
+        × IsWrittenInPart (TellsFailedRead (asks (texts_of words.now) held) (F.reads folder.old) (F.reads folder.new))
+        (S.written out.old) (S.written out.new))) }
 
+    // Where no read failed, each path that is asked was read once.
     ensures all_read { Stood (F.faults folder.old) (F.faults folder.new) → result ≢ Status.NoMemory
         → ReadAll (texts_of words.now) (F.held folder.old) (F.reads folder.old) (F.reads folder.new) }
 
@@ -85,9 +94,11 @@ pub fn scan<R: Threads + Sync, F: Folder, S: Sink, G: Gate>(
     }
 }
 
-/// There is at most one answer for these words and a folder that holds this.
+/// There is at most one answer for these words and a folder that holds this, and at most one reply for these words
+/// and what the reads gave.
 pub fn law_one_answer()
-    ensures { (words : List (List ℕ)) (held : Held) (one other : Reply) → IsAnswer words held one → IsAnswer words held other → one ≡ other }
+    ensures answer { (words : List (List ℕ)) (held : Held) (one other : Reply) → IsAnswer words held one → IsAnswer words held other → one ≡ other }
+    ensures reply { (words : List (List ℕ)) (given : List ReadResult) (one other : Reply) → IsReply words given one → IsReply words given other → one ≡ other }
 {}
 
 /// What the words ask for, of what there is.
@@ -143,8 +154,7 @@ fn reply_to<F: Folder>(alloc: Global, words: &[String], folder: &mut F) -> Resul
 
     ensures answered { IfOk result (λ reply. reply.status ≢ Status.ReadFault
         → IsToldAnswer (texts_of words.now) (F.held folder.old) reply) }
-    ensures some_answer { IfOk result (λ reply. reply.status ≢ Status.ReadFault
-        → IsSomeAnswer (texts_of words.now) reply) }
+    ensures some_reply { IfOk result (IsSomeReply (texts_of words.now) (F.faults folder.old) (F.faults folder.new)) }
     ensures all_read { IfOk result (λ reply. reply.status ≢ Status.ReadFault
         → ReadAll (texts_of words.now) (F.held folder.old) (F.reads folder.old) (F.reads folder.new)) }
 
@@ -156,9 +166,8 @@ fn reply_to<F: Folder>(alloc: Global, words: &[String], folder: &mut F) -> Resul
 
     ensures fault { IfOk result (λ reply. reply.status ≡ Status.ReadFault
         → Rose (F.faults folder.old) (F.faults folder.new)) }
-    ensures last_read { IfOk result (λ reply. reply.status ≡ Status.ReadFault
-        → TellsLastRead (texts_of words.now) (F.held folder.old) (F.reads folder.old) (F.reads folder.new) reply) }
-    ensures some_fault { IfOk result (λ reply. reply.status ≡ Status.ReadFault → IsSomeReadFault reply) }
+    ensures failed_read { IfOk result (λ reply. reply.status ≡ Status.ReadFault → IfSome (F.held folder.old) (λ held.
+        TellsFailedRead (asks (texts_of words.now) held) (F.reads folder.old) (F.reads folder.new) reply)) }
 
     // No other status comes from here.
     ensures not_write { IfOk result (λ reply. reply.status ≢ Status.WriteFault) }
@@ -172,7 +181,7 @@ fn reply_to<F: Folder>(alloc: Global, words: &[String], folder: &mut F) -> Resul
     match folder.read(alloc, INDEX, INDEX_LIMIT) {
         Ok(fetched) => answer_of_fetched(alloc, fetched),
         Err(FolderFault::NoMemory) => Err(NoMemory),
-        Err(FolderFault::Failed) => reply_by_fault(alloc),
+        Err(FolderFault::Failed) => read_fault(alloc, INDEX),
     }
 }
 
@@ -188,14 +197,5 @@ fn reply_by_usage(alloc: Global) -> Result<Reply, NoMemory>
     Ok(Reply {
         status: Status::Usage,
         text,
-    })
-}
-
-fn reply_by_fault(alloc: Global) -> Result<Reply, NoMemory>
-    ensures { IfOk result (λ reply. reply ≡ read_fault index) }
-{
-    Ok(Reply {
-        status: Status::ReadFault,
-        text: Text::of(alloc, "read fault index.js\n")?,
     })
 }

@@ -23,7 +23,7 @@ mod table;
 #[cfg(test)]
 mod tests;
 
-pub use answer::{answer_of_file, refused};
+pub use answer::answer_of_file;
 pub use code::{Code, FunctionRow, Line, SharedRow, Statement};
 pub use fact::{Fact, Row};
 pub use facts::Facts;

@@ -1,12 +1,8 @@
 //! The top call: from the words and a folder to the text that is written and the status.
 #![tactic(auto)]
 
-#[cfg(test)]
-mod code_listing;
 mod command;
 pub mod first;
-#[cfg(test)]
-mod lowering_tests;
 mod part;
 mod reply;
 mod status;

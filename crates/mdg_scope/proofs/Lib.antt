@@ -1,8 +1,8 @@
 pub mod TableLemmas
 pub mod Equations
 pub mod Walks
-pub mod AroundLemmas
-pub mod PlaceLemmas
-pub mod FirstLemmas
+pub mod EnclosingLemmas
+pub mod NameLemmas
+pub mod ViolationLemmas
 pub mod RefusalLemmas
 pub mod KeyLemmas

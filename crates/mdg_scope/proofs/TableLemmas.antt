@@ -1,4 +1,4 @@
--- Tables of names, seen through their keys.
+-- Scopes of names, seen through their keys.
 use Rattle.std.proofs.Common.{◌≡◌, Bool, true, false, if◌then◌else◌, ◌||◌, List, [], ◌∷◌, ◌++◌, map, refl, sym, ap, ◌∙◌, not, cond, ◌+◌, length, nat_lt, Some, None}
 use Rattle.std.proofs.lemmas.List.{length-map}
 use Rattle.std.specs.List.{list_any, position, position_or_len, prefix_len}
@@ -13,7 +13,7 @@ pub mapped_behind : {A B : Type 0} (f : A → B) (xs : List A) (x : A) → map f
 mapped_behind f [] x = refl
 mapped_behind f (y ∷ ys) x = ap (λ l. f y ∷ l) (mapped_behind f ys x)
 
--- the item goes behind the others where the test says so, also after a map
+-- the item goes after the others where the test says so, also after a map
 pub mapped_choice : {A B : Type 0} (f : A → B) (b c : Bool) (xs : List A) (x : A) → c ≡ b
     → map f (if b then xs else xs ++ x ∷ []) ≡ (if c then map f xs else map f xs ++ f x ∷ [])
 mapped_choice f true c xs x e = ap (λ w. if w then map f xs else map f xs ++ f x ∷ []) (sym e)

@@ -1,7 +1,8 @@
 pub mod Names
-pub mod Words
-pub mod Paths
-pub mod Meaning
-pub mod Rules
+pub mod Collectors
+pub mod Occurrences
+pub mod RequireTargets
+pub mod Resolution
+pub mod Violations
 pub mod Functions
 pub mod Bindings

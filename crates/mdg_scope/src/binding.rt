@@ -2,85 +2,87 @@
 
 ghost use Rattle.std.specs.Prelude.{◌≡◌, Ok, Err, IfOk, MatchOption};
 ghost use Rattle.mdg_scope.specs.Bindings.{Checks, HasParts, IsAnswer, IsAnswerOver};
-ghost use Rattle.mdg_scope.specs.Meaning as meanings;
-ghost use Rattle.mdg_scope.specs.Rules as rules_of;
+ghost use Rattle.mdg_scope.specs.Resolution as resolutions;
+ghost use Rattle.mdg_scope.specs.Violations as violations;
 
 use crate::bound::{Bound, BoundFunction, Require};
-use crate::collect::file_words;
+use crate::collector::file_occurrences;
 use crate::function::{functions_with, uses_of};
-use crate::meaning::{Tables, tables_of};
+use crate::occurrence::Occurrence;
 use crate::refusal::ScopeRefusal;
 use crate::required::required_by;
-use crate::rule::{Broken, first_broken, refusal_of};
-use crate::word::Word;
+use crate::resolution::{Scopes, scopes_of};
+use crate::violation::{Violation, first_violation, refusal_of};
 use mdg_base::{Items, NoMemory, Text};
 use mdg_profile::Profile;
-use mdg_tree::FileTree;
+use mdg_tree::{At, FileTree};
 use std::alloc::Global;
 
-/// What the words of a file bind and require.
+/// What the occurrences of a file bind and require.
 #[derive(Drop)]
 struct Parts {
     functions: Items<BoundFunction>,
     required: Items<Require>,
 }
 
-/// Whether a rule is broken.
-fn told(broken: Option<Broken>) -> Result<(), ScopeRefusal>
-    ensures { MatchOption broken (result ≡ Ok tt) (λ b. result ≡ Err (rules_of.refusal_of b)) }
+/// The refusal of the violation, if there is one.
+fn refused(violation: Option<Violation>) -> Result<(), ScopeRefusal>
+    ensures { MatchOption violation (result ≡ Ok tt) (λ b. result ≡ Err (violations.refusal_of b)) }
 {
-    match broken {
-        Some(broken) => Err(refusal_of(broken)),
+    match violation {
+        Some(violation) => Err(refusal_of(violation)),
         None => Ok(()),
     }
 }
 
-/// Whether the words break a rule.
+/// Whether the occurrences violate a rule.
 #[tactic(auto, using(crate::proofs::RefusalLemmas::checked))]
 fn check<'a>(
     alloc: Global,
     path: &str,
-    words: &'a [Word],
-    tables: &Tables<'a>,
+    occurrences: &'a [Occurrence],
+    scopes: &Scopes<'a>,
 ) -> Result<(), ScopeRefusal>
-    ensures { Checks path.now tables.now words.now result }
+    ensures { Checks path.now scopes.now occurrences.now result }
 {
-    let broken = first_broken(alloc, path, words, tables)?;
-    told(broken)
+    let violation = first_violation(alloc, path, occurrences, scopes)?;
+    refused(violation)
 }
 
 fn parts_of<'a>(
     alloc: Global,
     path: &str,
-    words: &'a [Word],
-    tables: &Tables<'a>,
+    at: At,
+    occurrences: &'a [Occurrence],
+    scopes: &Scopes<'a>,
 ) -> Result<Parts, NoMemory>
-    ensures { IfOk result (HasParts path.now tables.now words.now) }
+    ensures { IfOk result (HasParts path.now scopes.now at occurrences.now) }
 {
-    let uses = uses_of(alloc, words, tables)?;
+    let uses = uses_of(alloc, occurrences, scopes)?;
     Ok(Parts {
-        functions: functions_with(alloc, tables, &uses, words)?,
-        required: required_by(alloc, path, tables, words)?,
+        functions: functions_with(alloc, scopes, &uses, at, occurrences)?,
+        required: required_by(alloc, path, scopes, occurrences)?,
     })
 }
 
-/// What the words bind and require, or the first rule that they break.
+/// What the occurrences bind and require, or the refusal of the first violation.
 fn checked_parts(
     alloc: Global,
     path: &str,
-    words: &[Word],
+    at: At,
+    occurrences: &[Occurrence],
     profile: &Profile,
 ) -> Result<Parts, ScopeRefusal>
-    ensures { IsAnswerOver path.now (meanings.tables words.now profile.now) words.now result }
+    ensures { IsAnswerOver path.now (resolutions.scopes occurrences.now profile.now) at occurrences.now result }
 {
-    let tables = tables_of(alloc, words, profile)?;
-    check(alloc, path, words, &tables)?;
-    Ok(parts_of(alloc, path, words, &tables)?)
+    let scopes = scopes_of(alloc, occurrences, profile)?;
+    check(alloc, path, occurrences, &scopes)?;
+    Ok(parts_of(alloc, path, at, occurrences, &scopes)?)
 }
 
 /// What the functions of a file bind, and what it requires, under a profile (10.5, 13, 14.1).
 ///
-/// A name means the innermost binding around it, else `require`, else a literal name (`undefined`, `NaN`,
+/// A name means the enclosing_binder binding around it, else `require`, else a literal name (`undefined`, `NaN`,
 /// `Infinity`), else a global of the profile. The refusal is that of the least offset, and at one offset the
 /// first in the order `BadBinding`, `Unbound`, `BadRequire`, `BadNew`, `BadJump`; `ScopeRefusal` says when
 /// each comes. The path is that of the file from the package's folder. A refused call drops the tree.
@@ -92,11 +94,11 @@ pub fn bind(
 ) -> Result<Bound, ScopeRefusal>
     ensures { IsAnswer path.now tree profile.now result }
 {
-    let words = file_words(alloc, &tree)?;
+    let occurrences = file_occurrences(alloc, &tree)?;
     let Parts {
         functions,
         required,
-    } = checked_parts(alloc, path, words.as_slice(), profile)?;
+    } = checked_parts(alloc, path, tree.at, occurrences.as_slice(), profile)?;
     Ok(Bound {
         path: Text::of(alloc, path)?,
         tree,

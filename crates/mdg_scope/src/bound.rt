@@ -10,7 +10,7 @@ pub struct Bound {
     pub path: Text,
     pub tree: FileTree,
 
-    /// The body of the file, and then its functions by the offset of their word `function`.
+    /// The body of the file, and then its functions by the offset of their keyword `function`.
     pub functions: Items<BoundFunction>,
 
     /// The calls of `require`, by offset.
@@ -23,7 +23,7 @@ pub struct BoundFunction {
     /// The number of the function around it. The body of the file, which is function 0, has none.
     pub parent: Option<u32>,
 
-    /// The name that stands behind the word `function`.
+    /// The name that stands after the keyword `function`.
     pub name: Option<Text>,
 
     /// The parameters in order, those that are cells too.
@@ -40,20 +40,20 @@ pub struct BoundFunction {
     /// and some name in it means that.
     pub own_name: bool,
 
-    /// The line of the word `function`, from 1; for the body of a file 1.
+    /// The line of the keyword `function`, from 1; for the body of a file that of its first token.
     pub line: u32,
 
-    /// The offset of the word `function`; for the body of a file 0.
+    /// The offset of the keyword `function`; for the body of a file that of its first token.
     pub offset: u32,
 }
 
 /// A call of `require` with a text, where no binding has that name.
 #[derive(Debug, Drop)]
 pub struct Require {
-    /// The offset of the word `require`.
+    /// The offset of the name `require`.
     pub offset: u32,
 
-    /// The line of the word `require`, from 1.
+    /// The line of the name `require`, from 1.
     pub line: u32,
 
     /// The text. A bare one stands without `node:`, and one that names data as `./` and its path from

@@ -2,110 +2,133 @@
 
 ghost use Rattle.std.specs.Prelude.{◌≡◌, ◌++◌, ◌∷◌, [], ◌<◌, map, length, slice_set, OnOk, IfOk, if◌then◌else◌};
 ghost use Rattle.mdg_scope.specs.Functions as functions_of;
-ghost use Rattle.mdg_scope.specs.Meaning as meanings;
+ghost use Rattle.mdg_scope.specs.Resolution as resolutions;
 
 use crate::bound::BoundFunction;
-use crate::collect::{copy_name, copy_names};
-use crate::meaning::{Sense, Tables};
-use crate::names::NamedTable;
-use crate::word::{Head, Role, Word};
+use crate::collector::{copy_name, copy_names};
+use crate::names::ScopedNames;
+use crate::occurrence::{Head, Occurrence, OccurrenceKind};
+use crate::resolution::{Resolution, Scopes};
 use mdg_base::{Items, NoMemory, Text};
+use mdg_tree::At;
 use std::alloc::Global;
 
-/// Which words count.
+/// Which occurrences a table is made of.
 #[derive(Clone, Copy, Debug, PartialEq, Eq)]
-pub enum Count {
-    /// All that bind a name or use it.
+pub enum Filter {
+    /// All appearances of what their names mean.
     Any,
 
     /// Those that stand in a nested function.
     Nested,
 
-    /// Those that use it.
+    /// Those that use a name.
     Used,
 }
 
 /// How the bindings of a file are used.
 #[derive(Drop)]
 pub struct Uses<'a> {
-    /// All, in the order of the first word that binds or means them.
-    pub names: NamedTable<'a>,
+    /// All, in the order of the first occurrence that binds or means them.
+    pub names: ScopedNames<'a>,
 
     /// Those that a nested function uses.
-    pub cells: NamedTable<'a>,
+    pub cells: ScopedNames<'a>,
 
     /// Those that are used at all.
-    pub used: NamedTable<'a>,
+    pub used: ScopedNames<'a>,
 }
 
-fn is_naming(role: &Role) -> bool
-    ensures { result ≡ functions_of.is_naming role.now }
+fn is_naming(kind: &OccurrenceKind) -> bool
+    ensures { result ≡ functions_of.is_naming kind.now }
 {
     matches!(
-        role,
-        Role::Given
-            | Role::Parameter
-            | Role::RepeatedParameter
-            | Role::Variable
-            | Role::Declared
-            | Role::Own
-            | Role::Read
-            | Role::Assigned
-            | Role::TypeOperand
-            | Role::Called(_)
+        kind,
+        OccurrenceKind::Given
+            | OccurrenceKind::Parameter
+            | OccurrenceKind::RepeatedParameter
+            | OccurrenceKind::Variable
+            | OccurrenceKind::Declared
+            | OccurrenceKind::Own
+            | OccurrenceKind::Read
+            | OccurrenceKind::Assigned
+            | OccurrenceKind::TypeOperand
+            | OccurrenceKind::Called(_)
     )
 }
 
-fn is_use(role: &Role) -> bool
-    ensures { result ≡ meanings.is_use role.now }
+fn is_use(kind: &OccurrenceKind) -> bool
+    ensures { result ≡ resolutions.is_use kind.now }
 {
     matches!(
-        role,
-        Role::Read | Role::Assigned | Role::TypeOperand | Role::Called(_)
+        kind,
+        OccurrenceKind::Read
+            | OccurrenceKind::Assigned
+            | OccurrenceKind::TypeOperand
+            | OccurrenceKind::Called(_)
     )
 }
 
-fn counts(which: Count, word: &Word, function: u32) -> bool
-    ensures { result ≡ functions_of.counts which word.now function }
+/// Whether it is the name of a function expression that binds that name otherwise (13).
+fn is_overridden<'a>(scopes: &Scopes<'a>, occurrence: &'a Occurrence) -> bool
+    ensures { result ≡ functions_of.is_overridden scopes.now occurrence.now }
+{
+    matches!(occurrence.kind, OccurrenceKind::Own)
+        && scopes
+            .bindings
+            .has(occurrence.within, occurrence.name.as_str())
+}
+
+fn is_appearance<'a>(scopes: &Scopes<'a>, occurrence: &'a Occurrence) -> bool
+    ensures { result ≡ functions_of.is_appearance scopes.now occurrence.now }
+{
+    is_naming(&occurrence.kind) && !is_overridden(scopes, occurrence)
+}
+
+fn passes<'a>(which: Filter, scopes: &Scopes<'a>, occurrence: &'a Occurrence, function: u32) -> bool
+    ensures { result ≡ functions_of.passes which scopes.now occurrence.now function }
 {
     match which {
-        Count::Any => is_naming(&word.role),
-        Count::Nested => is_naming(&word.role) && word.within != function,
-        Count::Used => is_use(&word.role),
+        Filter::Any => is_appearance(scopes, occurrence),
+        Filter::Nested => is_appearance(scopes, occurrence) && occurrence.within != function,
+        Filter::Used => is_use(&occurrence.kind),
     }
 }
 
-fn put_counted<'a>(
-    table: &mut NamedTable<'a>,
-    which: Count,
-    word: &'a Word,
-    means: Sense,
+fn put_filtered<'a>(
+    table: &mut ScopedNames<'a>,
+    which: Filter,
+    scopes: &Scopes<'a>,
+    occurrence: &'a Occurrence,
+    means: Resolution,
 ) -> Result<(), NoMemory>
-    ensures { OnOk result (table.new ≡ functions_of.counted which word.now means table.old) }
+    ensures { OnOk result (table.new ≡ functions_of.filtered which scopes.now occurrence.now means table.old) }
 {
     match means {
-        Sense::Bound(function) if counts(which, word, function) => table.add(
+        Resolution::Bound(function) if passes(which, scopes, occurrence, function) => table.add(
             function,
-            word.name.as_str(),
+            occurrence.name.as_str(),
         ),
-        Sense::Bound(_) | Sense::Require | Sense::Literal | Sense::Global | Sense::Nothing => Ok(
-            (),
-        ),
+        Resolution::Bound(_)
+        | Resolution::Require
+        | Resolution::Literal
+        | Resolution::Global
+        | Resolution::Nothing => Ok(()),
     }
 }
 
-fn counted<'a>(
+fn filtered<'a>(
     alloc: Global,
-    which: Count,
-    words: &'a [Word],
-    tables: &Tables<'a>,
-) -> Result<NamedTable<'a>, NoMemory>
-    ensures { IfOk result (λ t. t ≡ functions_of.counted_from which tables.now [] words.now) }
+    which: Filter,
+    occurrences: &'a [Occurrence],
+    scopes: &Scopes<'a>,
+) -> Result<ScopedNames<'a>, NoMemory>
+    ensures { IfOk result (λ t. t ≡ functions_of.filtered_from which scopes.now [] occurrences.now) }
 {
-    let mut table = NamedTable::create(alloc);
-    for word in words {
-        let means = tables.sense(word.within, word.name.as_str());
-        put_counted(&mut table, which, word, means)?;
+    let mut table = ScopedNames::create(alloc);
+    for occurrence in occurrences {
+        let means = scopes.resolve(occurrence.within, occurrence.name.as_str());
+        put_filtered(&mut table, which, scopes, occurrence, means)?;
     }
     Ok(table)
 }
@@ -113,26 +136,26 @@ fn counted<'a>(
 /// How the bindings are used.
 pub fn uses_of<'a>(
     alloc: Global,
-    words: &'a [Word],
-    tables: &Tables<'a>,
+    occurrences: &'a [Occurrence],
+    scopes: &Scopes<'a>,
 ) -> Result<Uses<'a>, NoMemory>
-    ensures { IfOk result (λ u. u ≡ functions_of.uses tables.now words.now) }
+    ensures { IfOk result (λ u. u ≡ functions_of.uses scopes.now occurrences.now) }
 {
     Ok(Uses {
-        names: counted(alloc, Count::Any, words, tables)?,
-        cells: counted(alloc, Count::Nested, words, tables)?,
-        used: counted(alloc, Count::Used, words, tables)?,
+        names: filtered(alloc, Filter::Any, occurrences, scopes)?,
+        cells: filtered(alloc, Filter::Nested, occurrences, scopes)?,
+        used: filtered(alloc, Filter::Used, occurrences, scopes)?,
     })
 }
 
-fn has_own_name<'a>(tables: &Tables<'a>, uses: &Uses<'a>, head: &'a Head) -> bool
-    ensures { result ≡ functions_of.has_own_name tables.now uses.now head.now.number head.now.name }
+fn has_own_name<'a>(scopes: &Scopes<'a>, uses: &Uses<'a>, head: &'a Head) -> bool
+    ensures { result ≡ functions_of.has_own_name scopes.now uses.now head.now.number head.now.name }
 {
     match &head.name {
         Some(name) => {
             let name = name.as_str();
-            tables.owns.has(head.number, name)
-                && !tables.bindings.has(head.number, name)
+            scopes.owns.has(head.number, name)
+                && !scopes.bindings.has(head.number, name)
                 && uses.used.has(head.number, name)
         }
         None => false,
@@ -141,27 +164,27 @@ fn has_own_name<'a>(tables: &Tables<'a>, uses: &Uses<'a>, head: &'a Head) -> boo
 
 fn head_function<'a>(
     alloc: Global,
-    tables: &Tables<'a>,
+    scopes: &Scopes<'a>,
     uses: &Uses<'a>,
-    word: &'a Word,
+    occurrence: &'a Occurrence,
     head: &'a Head,
 ) -> Result<BoundFunction, NoMemory>
-    ensures { IfOk result (λ f. f ≡ functions_of.head_function tables.now uses.now word.now head.now) }
+    ensures { IfOk result (λ f. f ≡ functions_of.head_function scopes.now uses.now occurrence.now head.now) }
 {
     Ok(BoundFunction {
-        parent: Some(word.within),
+        parent: Some(occurrence.within),
         name: copy_name(alloc, &head.name)?,
         parameters: copy_names(alloc, head.parameters.as_slice())?,
         locals: Items::create(alloc),
         cells: Items::create(alloc),
-        own_name: has_own_name(tables, uses, head),
+        own_name: has_own_name(scopes, uses, head),
         line: head.line,
-        offset: word.offset,
+        offset: occurrence.offset,
     })
 }
 
-fn body(alloc: Global) -> BoundFunction
-    ensures { result ≡ functions_of.body }
+fn body(alloc: Global, at: At) -> BoundFunction
+    ensures { result ≡ functions_of.body at }
 {
     BoundFunction {
         parent: None,
@@ -170,22 +193,22 @@ fn body(alloc: Global) -> BoundFunction
         locals: Items::create(alloc),
         cells: Items::create(alloc),
         own_name: false,
-        line: 1,
-        offset: 0,
+        line: at.line,
+        offset: at.offset,
     }
 }
 
 fn put_head<'a>(
     made: &mut Vec<BoundFunction>,
     alloc: Global,
-    tables: &Tables<'a>,
+    scopes: &Scopes<'a>,
     uses: &Uses<'a>,
-    word: &'a Word,
+    occurrence: &'a Occurrence,
 ) -> Result<(), NoMemory>
-    ensures { OnOk result (made.new.items ≡ made.old.items ++ functions_of.begun_by tables.now uses.now word.now) }
+    ensures { OnOk result (made.new.items ≡ made.old.items ++ functions_of.begun_by scopes.now uses.now occurrence.now) }
 {
-    if let Role::Begins(head) = &word.role {
-        made.push(head_function(alloc, tables, uses, word, head)?)?;
+    if let OccurrenceKind::Begins(head) = &occurrence.kind {
+        made.push(head_function(alloc, scopes, uses, occurrence, head)?)?;
     }
     Ok(())
 }
@@ -194,16 +217,17 @@ fn put_head<'a>(
 #[tactic(auto, using(crate::proofs::Walks::walks))]
 fn heads<'a>(
     alloc: Global,
-    tables: &Tables<'a>,
+    scopes: &Scopes<'a>,
     uses: &Uses<'a>,
-    words: &'a [Word],
+    at: At,
+    occurrences: &'a [Occurrence],
 ) -> Result<Vec<BoundFunction>, NoMemory>
-    ensures { IfOk result (λ m. m.items ≡ functions_of.body ∷ functions_of.heads tables.now uses.now words.now) }
+    ensures { IfOk result (λ m. m.items ≡ functions_of.body at ∷ functions_of.heads scopes.now uses.now occurrences.now) }
 {
     let mut made = Vec::new(alloc);
-    made.push(body(alloc))?;
-    for word in words {
-        put_head(&mut made, alloc, tables, uses, word)?;
+    made.push(body(alloc, at))?;
+    for occurrence in occurrences {
+        put_head(&mut made, alloc, scopes, uses, occurrence)?;
     }
     Ok(made)
 }
@@ -212,17 +236,17 @@ fn heads<'a>(
 fn add_name<'a>(
     function: &mut BoundFunction,
     alloc: Global,
-    tables: &Tables<'a>,
+    scopes: &Scopes<'a>,
     uses: &Uses<'a>,
     number: u32,
     name: &'a str,
 ) -> Result<(), NoMemory>
-    ensures { OnOk result (function.new ≡ functions_of.placed tables.now uses.now (number, name.now) function.old) }
+    ensures { OnOk result (function.new ≡ functions_of.placed scopes.now uses.now (number, name.now) function.old) }
 {
     if uses.cells.has(number, name) {
         return function.cells.push(Text::of(alloc, name)?);
     }
-    if tables.parameters.has(number, name) {
+    if scopes.parameters.has(number, name) {
         return Ok(());
     }
     function.locals.push(Text::of(alloc, name)?)
@@ -231,16 +255,16 @@ fn add_name<'a>(
 fn put_name<'a>(
     functions: &mut [BoundFunction],
     alloc: Global,
-    tables: &Tables<'a>,
+    scopes: &Scopes<'a>,
     uses: &Uses<'a>,
     number: u32,
     name: &'a str,
 ) -> Result<(), NoMemory>
-    ensures { OnOk result (functions.new ≡ functions_of.put_name tables.now uses.now (number, name.now) 0 functions.old) }
+    ensures { OnOk result (functions.new ≡ functions_of.put_name scopes.now uses.now (number, name.now) 0 functions.old) }
 {
     let index = number as usize;
     if index < functions.len() {
-        add_name(&mut functions[index], alloc, tables, uses, number, name)?;
+        add_name(&mut functions[index], alloc, scopes, uses, number, name)?;
     }
     Ok(())
 }
@@ -248,16 +272,17 @@ fn put_name<'a>(
 /// The functions in the order of their numbers, with their names.
 pub fn functions_with<'a>(
     alloc: Global,
-    tables: &Tables<'a>,
+    scopes: &Scopes<'a>,
     uses: &Uses<'a>,
-    words: &'a [Word],
+    at: At,
+    occurrences: &'a [Occurrence],
 ) -> Result<Items<BoundFunction>, NoMemory>
-    ensures { IfOk result (λ f. f ≡ functions_of.functions_by tables.now uses.now words.now) }
+    ensures { IfOk result (λ f. f ≡ functions_of.functions_by scopes.now uses.now at occurrences.now) }
 {
-    let mut made = heads(alloc, tables, uses, words)?;
+    let mut made = heads(alloc, scopes, uses, at, occurrences)?;
     let names = uses.names.names();
     for one in names {
-        put_name(made.as_mut_slice(), alloc, tables, uses, one.0, one.1)?;
+        put_name(made.as_mut_slice(), alloc, scopes, uses, one.0, one.1)?;
     }
     Ok(Items::from_vec(made))
 }

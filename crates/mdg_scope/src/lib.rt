@@ -1,24 +1,25 @@
 //! Bindings: what each name of a file means, and which rules of names, `require`, `new` and jumps a
-//! file breaks.
+//! file violates.
 //!
-//! The numbers beside the words are sections of ECMA-262, edition 5.1.
+//! The numbers in parentheses are sections of ECMA-262, edition 5.1.
 #![tactic(auto)]
 
-mod asked;
 mod binding;
 mod bound;
-mod collect;
+mod collector;
 mod function;
-mod meaning;
 mod names;
+mod occurrence;
 mod refusal;
+mod require_target;
 mod required;
-mod rule;
+mod resolution;
 #[cfg(test)]
 mod tests;
-mod word;
+mod violation;
 
 pub use binding::bind;
 pub use bound::{Bound, BoundFunction, Goal, Require};
-pub use names::NameTable;
+pub use names::Names;
 pub use refusal::ScopeRefusal;
+pub use resolution::{Resolution, free_resolution, globals, is_literal};

@@ -10,11 +10,11 @@ use std::marker::Model;
 
 /// A set of names. Contracts see it as the list of its names.
 #[derive(Drop)]
-pub struct NameTable<'a> {
+pub struct Names<'a> {
     names: IndexSet<&'a str>,
 }
 
-impl<'a> Model for NameTable<'a> {
+impl<'a> Model for Names<'a> {
     ghost use Rattle.std.specs.Prelude.{List, ℕ, map};
 
     ghost Value = { List (List ℕ) };
@@ -22,12 +22,12 @@ impl<'a> Model for NameTable<'a> {
     ghost view = { λ t. map (λ k. k.now) t.names.keys };
 }
 
-impl<'a> NameTable<'a> {
+impl<'a> Names<'a> {
     /// A table of no names.
-    pub fn create(alloc: Global) -> NameTable<'a>
+    pub fn create(alloc: Global) -> Names<'a>
         ensures { result ≡ [] }
     {
-        NameTable {
+        Names {
             names: IndexSet::new(alloc),
         }
     }
@@ -46,7 +46,7 @@ impl<'a> NameTable<'a> {
         self.names.get_index_of(&name)
     }
 
-    /// Puts the name behind the others, unless it is there. The answer tells whether it wasn't.
+    /// Puts the name after the others, unless it is there. The answer tells whether it wasn't.
     pub fn add(&mut self, name: &'a str) -> Result<bool, NoMemory>
         ensures added { IfOk result (λ new. new ≡ not (has_name self.old name.now)) }
         ensures names { OnOk result (self.new ≡ add_name self.old name.now) }
@@ -57,11 +57,11 @@ impl<'a> NameTable<'a> {
 
 /// A set of names in functions. Contracts see it as the list of pairs of a function's number and a name.
 #[derive(Drop)]
-pub struct NamedTable<'a> {
+pub struct ScopedNames<'a> {
     names: IndexSet<(u32, &'a str)>,
 }
 
-impl<'a> Model for NamedTable<'a> {
+impl<'a> Model for ScopedNames<'a> {
     ghost use Rattle.std.specs.Prelude.{List, ℕ, map};
 
     ghost Value = { List (ℕ × List ℕ) };
@@ -69,12 +69,12 @@ impl<'a> Model for NamedTable<'a> {
     ghost view = { λ t. map (λ k. (k.0, k.1.now)) t.names.keys };
 }
 
-impl<'a> NamedTable<'a> {
+impl<'a> ScopedNames<'a> {
     /// A table of no names.
-    pub fn create(alloc: Global) -> NamedTable<'a>
+    pub fn create(alloc: Global) -> ScopedNames<'a>
         ensures { result ≡ [] }
     {
-        NamedTable {
+        ScopedNames {
             names: IndexSet::new(alloc),
         }
     }
@@ -86,7 +86,7 @@ impl<'a> NamedTable<'a> {
         self.names.contains(&(function, name))
     }
 
-    /// Puts the name behind the others, unless it is there in that function.
+    /// Puts the name after the others, unless it is there in that function.
     pub fn add(&mut self, function: u32, name: &'a str) -> Result<(), NoMemory>
         ensures { OnOk result (self.new ≡ add_named self.old (function, name.now)) }
     {

@@ -4,7 +4,7 @@ use mdg_base::{NoMemory, Text};
 use std::alloc::{AllocError, AllocFailed};
 use thiserror::Error;
 
-/// Why `bind` has no bindings to give. Each rule comes with the name that breaks it, where there is one,
+/// Why `bind` has no bindings to give. Each rule comes with the name that violates it, where there is one,
 /// and with an offset.
 #[derive(Debug, Drop, Error)]
 pub enum ScopeRefusal {

@@ -2,12 +2,12 @@
 
 ghost use Rattle.std.specs.Prelude.{◌≡◌, ◌++◌, OnOk, IfOk, if◌then◌else◌, []};
 ghost use Rattle.mdg_scope.specs.Functions as functions_of;
-ghost use Rattle.mdg_scope.specs.Paths as paths;
+ghost use Rattle.mdg_scope.specs.RequireTargets as targets;
 
-use crate::asked::{Asked, what_is_asked};
 use crate::bound::{Goal, Require};
-use crate::meaning::{Sense, Tables};
-use crate::word::{Callee, Role, Word};
+use crate::occurrence::{Callee, Occurrence, OccurrenceKind};
+use crate::require_target::{RequireTarget, target_of};
+use crate::resolution::{Resolution, Scopes};
 use mdg_base::{Items, NoMemory, Text};
 use std::alloc::Global;
 
@@ -18,18 +18,18 @@ fn put_require(
     offset: u32,
     callee: &Callee,
 ) -> Result<(), NoMemory>
-    ensures { OnOk result (made.new ≡ made.old ++ functions_of.require_of offset callee.now.line callee.now.text (paths.asked path.now callee.now.text)) }
+    ensures { OnOk result (made.new ≡ made.old ++ functions_of.require_of offset callee.now.line callee.now.text (targets.target_of path.now callee.now.text)) }
 {
     let line = callee.line;
-    match what_is_asked(alloc, path, callee.text.as_str())? {
-        Asked::Refused => Ok(()),
-        Asked::Bare(text) => made.push(Require {
+    match target_of(alloc, path, callee.text.as_str())? {
+        RequireTarget::Refused => Ok(()),
+        RequireTarget::Bare(text) => made.push(Require {
             offset,
             line,
             text,
             goal: Goal::Bare,
         }),
-        Asked::InPackage => made.push(Require {
+        RequireTarget::InPackage => made.push(Require {
             offset,
             line,
             text: Text::of(alloc, callee.text.as_str())?,
@@ -42,14 +42,14 @@ fn put_called(
     made: &mut Items<Require>,
     alloc: Global,
     path: &str,
-    word: &Word,
-    means: Sense,
+    occurrence: &Occurrence,
+    means: Resolution,
 ) -> Result<(), NoMemory>
-    ensures { OnOk result (made.new ≡ made.old ++ functions_of.called_require path.now word.now.offset word.now.role means) }
+    ensures { OnOk result (made.new ≡ made.old ++ functions_of.called_require path.now occurrence.now.offset occurrence.now.kind means) }
 {
-    if let Role::Called(callee) = &word.role {
-        if matches!(means, Sense::Require) {
-            return put_require(made, alloc, path, word.offset, callee);
+    if let OccurrenceKind::Called(callee) = &occurrence.kind {
+        if matches!(means, Resolution::Require) {
+            return put_require(made, alloc, path, occurrence.offset, callee);
         }
     }
     Ok(())
@@ -60,15 +60,15 @@ fn put_called(
 pub fn required_by<'a>(
     alloc: Global,
     path: &str,
-    tables: &Tables<'a>,
-    words: &'a [Word],
+    scopes: &Scopes<'a>,
+    occurrences: &'a [Occurrence],
 ) -> Result<Items<Require>, NoMemory>
-    ensures { IfOk result (λ r. r ≡ functions_of.required path.now tables.now words.now) }
+    ensures { IfOk result (λ r. r ≡ functions_of.required path.now scopes.now occurrences.now) }
 {
     let mut made = Items::create(alloc);
-    for word in words {
-        let means = tables.sense(word.within, word.name.as_str());
-        put_called(&mut made, alloc, path, word, means)?;
+    for occurrence in occurrences {
+        let means = scopes.resolve(occurrence.within, occurrence.name.as_str());
+        put_called(&mut made, alloc, path, occurrence, means)?;
     }
     Ok(made)
 }

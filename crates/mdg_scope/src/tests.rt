@@ -6,7 +6,8 @@ use crate::{Bound, BoundFunction, Goal, ScopeRefusal, bind};
 use mdg_base::{NoMemory, Text};
 use mdg_profile::default_profile;
 use mdg_tree::{
-    AssignOperator, At, Declaration, Expr, FileTree, Function, Key, Property, Stmt, UnaryOperator,
+    AssignOperator, At, BinaryOperator, Declaration, Expr, FileTree, Function, Key, Property, Stmt,
+    UnaryOperator,
 };
 use sqlite_items::{Boxed, Items};
 use std::alloc::Global;
@@ -75,7 +76,7 @@ fn given(expression: Expr) -> Stmt {
     Stmt::ReturnValue(at(0), expression)
 }
 
-/// A function whose word stands at the offset, its name 10 behind it, its parameters from 20 behind it.
+/// A function whose keyword stands at the offset, its name 10 after it, its parameters from 20 after it.
 fn function(
     alloc: Global,
     offset: u32,
@@ -359,6 +360,70 @@ fn own_names(rt: HostRuntime) -> Result<(), Fail> {
         list(alloc, said(Expr::FunctionExpression(bound)))?,
     )?;
     assert_eq!(rt; told.as_str(), "[][module exports ][];m[m ][][];");
+    Ok(())
+}
+
+fn numeral(alloc: Global, offset: u32, spelled: &str) -> Result<Expr, NoMemory> {
+    Ok(Expr::Numeral(at(offset), Text::of(alloc, spelled)?))
+}
+
+/// `var x = 1; var f = 2; x = f;`
+fn steps_of_f(alloc: Global) -> Result<Items<Stmt>, NoMemory> {
+    let x = var(alloc, 40, "x", Some(numeral(alloc, 44, "1")?))?;
+    let f = var(alloc, 52, "f", Some(numeral(alloc, 56, "2")?))?;
+    let target = boxed(alloc, name(alloc, 59, "x")?)?;
+    let value = boxed(alloc, name(alloc, 63, "f")?)?;
+    let mut steps = pair(alloc, x, f)?;
+    steps.push(said(Expr::Assign(at(59), AssignOperator::Plain, target, value)))?;
+    Ok(steps)
+}
+
+/// `var g = (function f() { .. });`, the functions with their names.
+fn bound_in_g(alloc: Global, body: Items<Stmt>) -> Result<Text, NoMemory> {
+    let inner = Expr::FunctionExpression(function(alloc, 9, "f", &[], body)?);
+    let bound = var(alloc, 4, "g", Some(paren(alloc, inner)?))?;
+    let (told, _) = answer(alloc, "index.js", list(alloc, bound)?)?;
+    Ok(told)
+}
+
+#[test]
+fn own_name_that_the_function_binds_otherwise(rt: HostRuntime) -> Result<(), Fail> {
+    let alloc = rt.alloc();
+    // var g = (function f() { var x = 1; var f = 2; x = f; });
+    let told = bound_in_g(alloc, steps_of_f(alloc)?)?;
+    assert_eq!(rt; told.as_str(), "[][module exports g ][];f[][x f ][];");
+    // var g = (function f() { var x = 1; var f = 2; x = f; return function () { return x + f; }; });
+    let left = boxed(alloc, name(alloc, 90, "x")?)?;
+    let right = boxed(alloc, name(alloc, 94, "f")?)?;
+    let sum = Expr::Binary(at(90), BinaryOperator::Add, left, right);
+    let inner = function(alloc, 70, "", &[], list(alloc, given(sum))?)?;
+    let mut body = steps_of_f(alloc)?;
+    body.push(given(Expr::FunctionExpression(inner)))?;
+    let told = bound_in_g(alloc, body)?;
+    assert_eq!(rt;
+        told.as_str(),
+        "[][module exports g ][];f[][][x f ];[][][];"
+    );
+    Ok(())
+}
+
+#[test]
+fn place_of_the_body(rt: HostRuntime) -> Result<(), Fail> {
+    let alloc = rt.alloc();
+    // `// one`, an empty line, 'use strict';
+    let tree = FileTree {
+        at: At { line: 3, offset: 8 },
+        items: mdg_base::Items::create(alloc),
+    };
+    let profile = default_profile(alloc)?;
+    let place = match bind(alloc, "index.js", tree, &profile) {
+        Ok(bound) => match bound.functions.as_slice() {
+            [body] => (body.line, body.offset),
+            _ => (0, 0),
+        },
+        Err(_) => (0, 1),
+    };
+    assert_eq!(rt; place, (3, 8));
     Ok(())
 }
 

@@ -9,8 +9,10 @@ mod operator;
 #[cfg(test)]
 mod tests;
 mod tree;
+mod view;
 
 pub use duplicate::copy;
 pub use measure::height;
 pub use operator::{AssignOperator, BinaryOperator, Step, UnaryOperator};
 pub use tree::{At, Declaration, Expr, FileTree, Function, Goal, Init, Key, Property, Stmt};
+pub use view::{key_name, name_of, string_of};

@@ -4,32 +4,12 @@ ghost use Rattle.std.specs.Fmt.{decimal};
 ghost use Rattle.mdg_scan.specs.Answer.{IsReadingAnswer, IsReport, refused};
 ghost use Rattle.mdg_scan.specs.Form.{read_of};
 ghost use Rattle.mdg_scan.specs.Lowered.{lowered};
-ghost use Rattle.mdg_scan.specs.Report.{line};
 
 use crate::first::{Form, FormRefusal, flows, grow, lower, read_form, report};
-use crate::{Reply, Status};
-use mdg_base::{NoMemory, Text};
+use crate::Reply;
+use crate::reply::refused;
+use mdg_base::NoMemory;
 use std::alloc::Global;
-
-// A line of these two texts.
-fn line_of(alloc: Global, word: &str, rest: &str) -> Result<Text, NoMemory>
-    ensures { IfOk result (λ text. text ≡ line (word.now ++ rest.now)) }
-{
-    let mut text = Text::of(alloc, word)?;
-    text.add(rest)?;
-    text.add("\n")?;
-    Ok(text)
-}
-
-/// A refusal with this text behind the word.
-pub fn refused(alloc: Global, text: &str) -> Result<Reply, NoMemory>
-    ensures { IfOk result (λ reply. reply ≡ refused text.now) }
-{
-    Ok(Reply {
-        status: Status::Refused,
-        text: line_of(alloc, "refused ", text)?,
-    })
-}
 
 // The refusal of this line.
 fn refused_at(alloc: Global, number: u64) -> Result<Reply, NoMemory>

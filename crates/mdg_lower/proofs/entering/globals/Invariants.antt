@@ -1,5 +1,5 @@
 use Rattle.std.proofs.Common.{◌≡◌, [], drop}
-use Rattle.mdg_scope.specs.Meaning.{globals_from}
+use Rattle.mdg_scope.specs.Resolution.{globals_from}
 use Rattle.mdg_lower.proofs.entering.globals.Given as goal
 
 abbrev pub invariant-loop-entry : goal.invariant-loop-entry

@@ -2,5 +2,5 @@ use Rattle.std.proofs.Common.{◌≡◌, ◌++◌, ◌∷◌, drop}
 use Rattle.mdg_scope.specs.Functions.{body, heads}
 use Rattle.mdg_scope.proofs.function.heads.Given as goal
 
-abbrev pub invariant-loop-word : goal.invariant-loop-word
-invariant-loop-word l = body ∷ heads l.tables l.uses l.words ≡ l.made.items ++ heads l.tables l.uses (drop l.word-index l.words)
+abbrev pub invariant-loop-occurrence : goal.invariant-loop-occurrence
+invariant-loop-occurrence l = body l.fn.at ∷ heads l.scopes l.uses l.occurrences ≡ l.made.items ++ heads l.scopes l.uses (drop l.occurrence-index l.occurrences)

@@ -1,6 +1,6 @@
 use Rattle.std.proofs.Common.{arith, sym, ap}
-use Rattle.mdg_tree.specs.Height.{height, stmt_height, property_height, declaration_height, stmt_height-For}
-use Rattle.mdg_tree.proofs.Heights.{highest_more}
+use Rattle.mdg_tree.specs.Height.{height, stmt_height, property_height, declaration_height}
+use Rattle.mdg_tree.proofs.Heights.{highest_more, stmt_height-For}
 use Rattle.mdg_tree.proofs.measure.+height.Goals as goal
 
 pub of_all-loop-one-preserved : goal.of_all-loop-one-preserved
