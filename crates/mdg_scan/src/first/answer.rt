@@ -5,8 +5,8 @@ ghost use Rattle.mdg_scan.specs.Answer.{IsReadingAnswer, IsReport, refused};
 ghost use Rattle.mdg_scan.specs.Form.{read_of};
 ghost use Rattle.mdg_scan.specs.Lowered.{lowered};
 
-use crate::first::{Form, FormRefusal, flows, grow, lower, read_form, report};
 use crate::Reply;
+use crate::first::{Form, FormRefusal, flows, grow, lower, read_form, report};
 use crate::reply::refused;
 use mdg_base::NoMemory;
 use std::alloc::Global;
