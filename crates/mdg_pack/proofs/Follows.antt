@@ -32,7 +32,7 @@ module _ (folder : List Path) (require : Require) (before after : Outside) (old 
       → RefusesUnlessMemory (λ given. found given candidates old) before after old refusal → Answers Sought before after old new (Err refusal)
   goal_refused candidates refusal is refuses =
       answers_same (λ given. then_with (found given candidates old) (λ n s. goes (goal_of n) s)) Sought before after old new (Err refusal) (λ given. ap (λ xs. then_with (found given xs old) (λ n s. goes (goal_of n) s)) (sym is))
-      (answers_refused (λ given. found given candidates old) (λ given n s. goes (goal_of n) s) before after old new refusal (λ given n s. front_all (paths s)) refuses)
+      (answers_refused (λ given. found given candidates old) (λ given n s. goes (goal_of n) s) before after old new refusal refuses)
 
 -- ---- one after the other
 

@@ -20,4 +20,4 @@ pub mod PartLemmas
 pub mod RowOrder
 pub mod RuleLemmas
 pub mod SpreadLemmas
-pub mod WordLemmas
+pub mod CommandLineLemmas

@@ -16,9 +16,9 @@ use Rattle.mdg_scan.specs.declared.first.code.Code.{Code}
 use Rattle.mdg_scan.specs.declared.first.flow.Flow.{Flow}
 use Rattle.mdg_scan.specs.declared.reply.Reply.{Reply}
 use Rattle.mdg_scan.specs.declared.status.Status.TheVariants.{Refused, Usage, ReadFault}
-use Rattle.mdg_scan.specs.declared.words.Command.{Command}
-use Rattle.mdg_scan.specs.declared.words.Command.TheVariants.{Scan, Replay, Sample}
-use Rattle.mdg_scan.specs.Words.{command_of, is_there}
+use Rattle.mdg_scan.specs.declared.command_line.Command.{Command}
+use Rattle.mdg_scan.specs.declared.command_line.Command.TheVariants.{Scan, Replay, Sample}
+use Rattle.mdg_scan.specs.CommandLine.{command_of, is_there}
 
 -- what the command asks for, of what there is
 abbrev pub task_of : Option Command → Task

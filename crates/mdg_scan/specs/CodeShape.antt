@@ -1,4 +1,4 @@
--- What each lowered code keeps.
+-- What each lowered code keeps. It serves the proof alone.
 use Rattle.std.specs.Prelude.{◌≡◌, ℕ, ◌+◌, ◌*◌, ◌<◌, ◌≤◌, ◌⊎◌, List, length, slice_index_or, ⊤}
 use Rattle.mdg_scan.specs.declared.first.code.Code.{Code}
 use Rattle.mdg_scan.specs.declared.first.code.FunctionRow.{FunctionRow}

@@ -1,4 +1,4 @@
--- How lists of what was found grow.
+-- How lists of what was found grow. It serves the proof of the flows alone.
 use Rattle.std.specs.Prelude.{◌≡◌, ◌⊎◌, ◌↔◌, ℕ, ◌<◌, List, Contains, slice_get, Option, Some, None}
 use Rattle.std.specs.List.{filter_map}
 use Rattle.mdg_base.specs.declared.node_name.NodeName.{NodeName}

@@ -16,4 +16,4 @@ pub mod Scan
 pub mod Steps
 pub mod Table
 pub mod Walks
-pub mod Words
+pub mod CommandLine

@@ -1,4 +1,4 @@
--- Parts of a set of facts, and the shelves on which they are kept.
+-- Parts of a set of facts, and the shelves on which they are kept. It serves the proof of the growth alone.
 use Rattle.std.specs.Prelude.{◌≡◌, List, [], ◌∷◌, ◌++◌, ◌↔◌, Contains, Vec, if◌then◌else◌}
 use Rattle.std.specs.Ordering.{eq_by_cmp}
 use Rattle.std.specs.declared.cmp.Ordering.{Ordering}

@@ -1,4 +1,4 @@
--- How a search along edges goes on.
+-- How a search along edges goes on. It serves the proof of the flows alone.
 use Rattle.std.specs.Prelude.{List, [], ◌∷◌, ◌++◌, Contains}
 use Rattle.mdg_base.specs.declared.node_name.NodeName.{NodeName}
 use Rattle.mdg_scan.specs.declared.first.reach.Edge.{Edge}

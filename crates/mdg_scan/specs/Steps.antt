@@ -1,4 +1,5 @@
 -- The two steps in which a rule is asked: the facts that it starts from, and what it concludes from each of them.
+-- It serves the proof of the growth alone.
 use Rattle.std.specs.Prelude.{◌≡◌, ◌≢◌, ◌↔◌, List, Contains, Some}
 use Rattle.mdg_base.specs.declared.node_name.NodeName.{NodeName}
 use Rattle.mdg_base.specs.declared.number.Column.{Column}

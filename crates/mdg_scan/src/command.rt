@@ -5,13 +5,14 @@ ghost use Rattle.mdg_port.specs.Held.{Held};
 ghost use Rattle.mdg_port.specs.Reads.{IsWithin};
 ghost use Rattle.mdg_scan.specs.Answer as answer;
 ghost use Rattle.mdg_scan.specs.Answer.{IsAnswer, IsFileAnswer, IsReply, ReadResult, asks, usage_reply};
-ghost use Rattle.mdg_scan.specs.Words.{texts_of};
-ghost use Rattle.mdg_scan.specs.Scan.{IsSomeReply, IsToldAnswer, IsWhole, IsWrittenInPart, IsWrittenWhole, ReadAll, TellsFailedRead};
+ghost use Rattle.mdg_scan.specs.CommandLine.{texts_of};
+ghost use Rattle.mdg_scan.specs.Scan.{IsSomeReply, IsToldAnswer, IsWhole, IsWrittenInPart, IsWrittenWhole, ReadAll};
+ghost use Rattle.mdg_scan.specs.Scan.{TellsFailedRead};
 ghost use Rattle.mdg_scan.specs.declared.reply.Reply.{Reply};
 
+use crate::command_line::{Command, WordsRefusal, read_words};
 use crate::first::answer_of_file;
 use crate::reply::{read_fault, refused};
-use crate::words::{Command, WordsRefusal, read_words};
 use crate::{Reply, Status};
 use mdg_base::{NoMemory, Text};
 use mdg_port::{Fetched, Folder, FolderFault, Gate, Sink, SinkFailed, write_whole};
@@ -38,7 +39,8 @@ pub fn scan<R: Threads + Sync, F: Folder, S: Sink, G: Gate>(
 ) -> Status
     // Where no call failed, the answer is the one that is defined, and exactly its text is written.
     ensures answered { IfSome (F.held folder.old) (λ held.
-        Stood (F.faults folder.old) (F.faults folder.new) → Stood (S.faults out.old) (S.faults out.new) → result ≢ Status.NoMemory
+        Stood (F.faults folder.old) (F.faults folder.new) → Stood (S.faults out.old) (S.faults out.new)
+        → result ≢ Status.NoMemory
         → IsWrittenWhole (IsAnswer (texts_of words.now) held) result (S.written out.old) (S.written out.new)) }
 
     // Each answer from `Clean` to `Usage` is the defined one, and is written whole.
@@ -77,12 +79,12 @@ pub fn scan<R: Threads + Sync, F: Folder, S: Sink, G: Gate>(
 
     // A wrong use is told only where the words are out of form, and there always but for a failed write.
     ensures usage { result ≡ Status.Usage → answer.task_by (texts_of words.now) ≡ Task.Usage }
-    ensures usage_told { answer.task_by (texts_of words.now) ≡ Task.Usage → Stood (S.faults out.old) (S.faults out.new) → result ≢ Status.NoMemory
-        → result ≡ Status.Usage }
+    ensures usage_told { answer.task_by (texts_of words.now) ≡ Task.Usage → Stood (S.faults out.old) (S.faults out.new)
+        → result ≢ Status.NoMemory → result ≡ Status.Usage }
 
     // What is not built is refused, and nothing is read for it or for words out of form.
-    ensures not_built { answer.task_by (texts_of words.now) ≡ Task.NotBuilt → Stood (S.faults out.old) (S.faults out.new) → result ≢ Status.NoMemory
-        → result ≡ Status.Refused }
+    ensures not_built { answer.task_by (texts_of words.now) ≡ Task.NotBuilt
+        → Stood (S.faults out.old) (S.faults out.new) → result ≢ Status.NoMemory → result ≡ Status.Refused }
     ensures unread { answer.task_by (texts_of words.now) ≢ Task.Scan → folder.new ≡ folder.old }
 {
     let Ok(reply) = reply_to(alloc, words, folder) else {
@@ -97,8 +99,10 @@ pub fn scan<R: Threads + Sync, F: Folder, S: Sink, G: Gate>(
 /// There is at most one answer for these words and a folder that holds this, and at most one reply for these words
 /// and what the reads gave.
 pub fn law_one_answer()
-    ensures answer { (words : List (List ℕ)) (held : Held) (one other : Reply) → IsAnswer words held one → IsAnswer words held other → one ≡ other }
-    ensures reply { (words : List (List ℕ)) (given : List ReadResult) (one other : Reply) → IsReply words given one → IsReply words given other → one ≡ other }
+    ensures answer { (words : List (List ℕ)) (held : Held) (one other : Reply)
+        → IsAnswer words held one → IsAnswer words held other → one ≡ other }
+    ensures reply { (words : List (List ℕ)) (given : List ReadResult) (one other : Reply)
+        → IsReply words given one → IsReply words given other → one ≡ other }
 {}
 
 /// What the words ask for, of what there is.

@@ -41,27 +41,3 @@ fn copies(rt: HostRuntime) -> Result<(), Fail> {
     assert!(rt; kept);
     Ok(())
 }
-
-#[test]
-fn views_look_through_parentheses(rt: HostRuntime) -> Result<(), Fail> {
-    let alloc = rt.alloc();
-    let place = At { line: 1, offset: 0 };
-    // (a)
-    let name = Expr::Paren(
-        place,
-        Boxed::new(alloc, Expr::Name(place, Text::of(alloc, "a")?))?,
-    );
-    assert_eq!(rt; name_of(&name).map_or("", |text| text.as_str()), "a");
-    assert!(rt; string_of(&name).is_none());
-    // (('b'))
-    let string = Expr::Paren(
-        place,
-        Boxed::new(alloc, Expr::Text(place, Text::of(alloc, "b")?))?,
-    );
-    let string = Expr::Paren(place, Boxed::new(alloc, string)?);
-    assert_eq!(rt; string_of(&string).map_or("", |text| text.as_str()), "b");
-    assert!(rt; name_of(&string).is_none());
-    let key = Key::Numeral(Text::of(alloc, "1.0")?);
-    assert_eq!(rt; key_name(&key).as_str(), "1.0");
-    Ok(())
-}

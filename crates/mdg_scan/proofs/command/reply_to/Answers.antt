@@ -1,6 +1,6 @@
 use Rattle.std.proofs.Common.{sym, ap, ◌∙◌, Err}
 use Rattle.std.proofs.lemmas.Result.{IfOk-weaker}
-use Rattle.mdg_scan.specs.Words.{texts_of}
+use Rattle.mdg_scan.specs.CommandLine.{texts_of}
 use Rattle.mdg_scan.proofs.HeldAnswers.{IsSomeReply-usage, IsSomeReply-not_built, IsSomeReply-file, IsSomeReply-fault, IsToldAnswer-file, TellsFailedRead-scan}
 use Rattle.mdg_scan.proofs.command.reply_to.Goals as goal
 

@@ -1,7 +1,7 @@
 use Rattle.mdg_scan.specs.Answer.{IsAnswer, asks}
 use Rattle.mdg_scan.specs.Scan.{IsSomeReply, TellsFailedRead}
-use Rattle.mdg_scan.specs.Words.{texts_of}
-use Rattle.mdg_scan.proofs.HeldAnswers.{IsWhole-no_fault, told_prefix, written_whole, written_where_told}
+use Rattle.mdg_scan.specs.CommandLine.{texts_of}
+use Rattle.mdg_scan.proofs.HeldAnswers.{IsWhole-no_fault, written_whole, written_where_told}
 use Rattle.mdg_scan.proofs.command.scan.Goals as goal
 
 pub returns-in-Ok-write_whole-clause-written : goal.returns-in-Ok-write_whole-clause-written

@@ -4,17 +4,17 @@ use Rattle.std.specs.Fmt.{decimal}
 use Rattle.std.specs.List.{filter_map, position_or_len, before_first, after_first}
 use Rattle.std.specs.String.{string_bytes}
 use Rattle.std.specs.declared.alloc.Global.{Global}
-use Rattle.mdg_scan.specs.declared.part.Part.{Part}
-use Rattle.mdg_scan.specs.declared.part.Part.TheVariants as part
-use Rattle.mdg_scan.specs.declared.part.Valued.{Valued}
-use Rattle.mdg_scan.specs.declared.part.Valued.TheVariants as valued
-use Rattle.mdg_scan.specs.declared.part.Taken.{Taken}
-use Rattle.mdg_scan.specs.declared.part.Taken.TheVariants.{Whole, Open, Wrong}
-use Rattle.mdg_scan.specs.declared.part.Given.{Given}
-use Rattle.mdg_scan.specs.declared.words.Command.{Command}
-use Rattle.mdg_scan.specs.declared.words.Command.TheVariants.{Scan, Replay, Sample}
-use Rattle.mdg_scan.specs.declared.words.WordsRefusal.{WordsRefusal}
-use Rattle.mdg_scan.specs.declared.words.WordsRefusal.TheVariants.{Usage, NoMemory}
+use Rattle.mdg_scan.specs.declared.argument.Argument.{Argument}
+use Rattle.mdg_scan.specs.declared.argument.Argument.TheVariants as argument
+use Rattle.mdg_scan.specs.declared.argument.Valued.{Valued}
+use Rattle.mdg_scan.specs.declared.argument.Valued.TheVariants as valued
+use Rattle.mdg_scan.specs.declared.argument.Taken.{Taken}
+use Rattle.mdg_scan.specs.declared.argument.Taken.TheVariants.{Whole, Open, Wrong}
+use Rattle.mdg_scan.specs.declared.argument.Given.{Given}
+use Rattle.mdg_scan.specs.declared.command_line.Command.{Command}
+use Rattle.mdg_scan.specs.declared.command_line.Command.TheVariants.{Scan, Replay, Sample}
+use Rattle.mdg_scan.specs.declared.command_line.WordsRefusal.{WordsRefusal}
+use Rattle.mdg_scan.specs.declared.command_line.WordsRefusal.TheVariants.{Usage, NoMemory}
 
 -- the words as texts
 abbrev pub texts_of : List (String Global) → List (List ℕ)
@@ -34,21 +34,21 @@ is_value (first ∷ rest) = not (first == 45)
 
 abbrev pub workers_by : Option ℕ → Taken
 workers_by None = Wrong
-workers_by (Some n) = Whole (part.Workers n)
+workers_by (Some n) = Whole (argument.Workers n)
 
 -- the option with this value
 abbrev pub with_value : Valued → List ℕ → Taken
 with_value valued.Workers value = workers_by (number_up_to 64 value)
-with_value valued.Profile value = if is_value value then Whole (part.Profile value) else Wrong
+with_value valued.Profile value = if is_value value then Whole (argument.Profile value) else Wrong
 
 -- a word that is no option
 abbrev pub plain : List ℕ → Taken
-plain word = if is_value word then Whole (part.Plain word) else Wrong
+plain word = if is_value word then Whole (argument.Plain word) else Wrong
 
 -- a word without `=`
 abbrev pub alone : List ℕ → Taken
 alone word =
-    if bytes_eq word (codes "--json") then Whole part.Json
+    if bytes_eq word (codes "--json") then Whole argument.Json
     else if bytes_eq word (codes "--workers") then Open valued.Workers
     else if bytes_eq word (codes "--profile") then Open valued.Profile
     else plain word
@@ -76,39 +76,39 @@ abbrev pub take_word : Option Valued → List ℕ → Taken
 take_word None word = begun word
 take_word (Some option) word = with_value option word
 
--- ---- all words behind the command's
+-- ---- all words after the command
 
-abbrev pub prepended : List Part → Option (List Part) → Option (List Part)
-prepended parts None = None
-prepended parts (Some rest) = Some (parts ++ rest)
+abbrev pub prepended : List Argument → Option (List Argument) → Option (List Argument)
+prepended arguments None = None
+prepended arguments (Some rest) = Some (arguments ++ rest)
 
-abbrev pub followed : Taken → (Option Valued → Option (List Part)) → Option (List Part)
-followed (Whole part) rest = prepended (part ∷ []) (rest None)
+abbrev pub followed : Taken → (Option Valued → Option (List Argument)) → Option (List Argument)
+followed (Whole argument) rest = prepended (argument ∷ []) (rest None)
 followed (Open option) rest = rest (Some option)
 followed Wrong rest = None
 
 -- what the words are, where the first may be the value of the word before it
-unfoldable pub parts_of : Option Valued → List (List ℕ) → Option (List Part)
-parts_of None [] = Some []
-parts_of (Some option) [] = None
-parts_of waiting (word ∷ words) = followed (take_word waiting word) (λ next. parts_of next words)
+unfoldable pub arguments_of : Option Valued → List (List ℕ) → Option (List Argument)
+arguments_of None [] = Some []
+arguments_of (Some option) [] = None
+arguments_of waiting (word ∷ words) = followed (take_word waiting word) (λ next. arguments_of next words)
 
 -- ---- each at most once
 
-abbrev pub workers_in : Part → Option ℕ
-workers_in (part.Workers n) = Some n
+abbrev pub workers_in : Argument → Option ℕ
+workers_in (argument.Workers n) = Some n
 workers_in _ = None
 
-abbrev pub json_in : Part → Option Unit
-json_in part.Json = Some tt
+abbrev pub json_in : Argument → Option Unit
+json_in argument.Json = Some tt
 json_in _ = None
 
-abbrev pub profile_in : Part → Option (List ℕ)
-profile_in (part.Profile file) = Some file
+abbrev pub profile_in : Argument → Option (List ℕ)
+profile_in (argument.Profile file) = Some file
 profile_in _ = None
 
-abbrev pub plain_in : Part → Option (List ℕ)
-plain_in (part.Plain word) = Some word
+abbrev pub plain_in : Argument → Option (List ℕ)
+plain_in (argument.Plain word) = Some word
 plain_in _ = None
 
 abbrev pub at_most_one : {A : Type 0} → List A → Option (Option A)
@@ -133,22 +133,22 @@ given_by workers json profile plain = do
   f ← plain
   Some (record { workers = w; json = is_there j; profile = p; plain = f })
 
--- what is given by parts of which no two are the same
-unfoldable pub given : List Part → Option Given
-given parts = given_by (at_most_one (filter_map workers_in parts)) (at_most_one (filter_map json_in parts)) (at_most_one (filter_map profile_in parts)) (at_most_one (filter_map plain_in parts))
+-- what is given by arguments of which no two are the same
+unfoldable pub given : List Argument → Option Given
+given arguments = given_by (at_most_one (filter_map workers_in arguments)) (at_most_one (filter_map json_in arguments)) (at_most_one (filter_map profile_in arguments)) (at_most_one (filter_map plain_in arguments))
 
--- whether such a part is given already
-abbrev pub is_given : Given → Part → Bool
-is_given g (part.Workers n) = is_there g.workers
-is_given g part.Json = g.json
-is_given g (part.Profile file) = is_there g.profile
-is_given g (part.Plain word) = is_there g.plain
+-- whether such a argument is given already
+abbrev pub is_given : Given → Argument → Bool
+is_given g (argument.Workers n) = is_there g.workers
+is_given g argument.Json = g.json
+is_given g (argument.Profile file) = is_there g.profile
+is_given g (argument.Plain word) = is_there g.plain
 
-abbrev pub with_part : Given → Part → Given
-with_part g (part.Workers n) = record { workers = Some n; json = g.json; profile = g.profile; plain = g.plain }
-with_part g part.Json = record { workers = g.workers; json = true; profile = g.profile; plain = g.plain }
-with_part g (part.Profile file) = record { workers = g.workers; json = g.json; profile = Some file; plain = g.plain }
-with_part g (part.Plain word) = record { workers = g.workers; json = g.json; profile = g.profile; plain = Some word }
+abbrev pub with_argument : Given → Argument → Given
+with_argument g (argument.Workers n) = record { workers = Some n; json = g.json; profile = g.profile; plain = g.plain }
+with_argument g argument.Json = record { workers = g.workers; json = true; profile = g.profile; plain = g.plain }
+with_argument g (argument.Profile file) = record { workers = g.workers; json = g.json; profile = Some file; plain = g.plain }
+with_argument g (argument.Plain word) = record { workers = g.workers; json = g.json; profile = g.profile; plain = Some word }
 
 -- ---- the three commands
 
@@ -195,8 +195,8 @@ named word g =
 unfoldable pub command_of : List (List ℕ) → Option Command
 command_of [] = None
 command_of (word ∷ words) = do
-  parts ← parts_of None words
-  g ← given parts
+  arguments ← arguments_of None words
+  g ← given arguments
   named word g
 
 -- what the words give, but for want of memory
@@ -205,10 +205,10 @@ Answers wanted (Ok command) = wanted ≡ Some command
 Answers wanted (Err Usage) = wanted ≡ None
 Answers wanted (Err NoMemory) = Unit {0}
 
-abbrev pub AreParts : Option (List Part) → Result (List Part) WordsRefusal → Type 0
-AreParts wanted (Ok parts) = wanted ≡ Some parts
-AreParts wanted (Err Usage) = wanted ≡ None
-AreParts wanted (Err NoMemory) = Unit {0}
+abbrev pub AreArguments : Option (List Argument) → Result (List Argument) WordsRefusal → Type 0
+AreArguments wanted (Ok arguments) = wanted ≡ Some arguments
+AreArguments wanted (Err Usage) = wanted ≡ None
+AreArguments wanted (Err NoMemory) = Unit {0}
 
 abbrev pub IsGiven : Option Given → Result Given WordsRefusal → Type 0
 IsGiven wanted (Ok given) = wanted ≡ Some given

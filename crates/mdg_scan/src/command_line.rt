@@ -1,9 +1,9 @@
 //! The words of the command line.
 ghost use Rattle.std.specs.Prelude.{◌≡◌, IfOk, None};
-ghost use Rattle.mdg_scan.specs.Words as spoken;
-ghost use Rattle.mdg_scan.specs.Words.{Answers, AreParts, IsGiven, command_of, parts_of, texts_of};
+ghost use Rattle.mdg_scan.specs.CommandLine as defined;
+ghost use Rattle.mdg_scan.specs.CommandLine.{Answers, AreArguments, IsGiven, command_of, arguments_of, texts_of};
 
-use crate::part::{Given, Part, Taken, Valued, number, take_word};
+use crate::argument::{Argument, Given, Taken, Valued, number, take_word};
 use mdg_base::{Items, NoMemory, Text};
 use std::alloc::Global;
 use thiserror::Error;
@@ -44,7 +44,7 @@ pub enum WordsRefusal {
 
 impl From<NoMemory> for WordsRefusal {
     ghost use Rattle.std.specs.Prelude.{◌≡◌};
-    ghost use Rattle.mdg_scan.specs.declared.words.WordsRefusal.TheVariants as refusal;
+    ghost use Rattle.mdg_scan.specs.declared.command_line.WordsRefusal.TheVariants as refusal;
 
     ghost from_gives = { λ _ e. e ≡ refusal.NoMemory };
 
@@ -59,28 +59,28 @@ impl From<NoMemory> for WordsRefusal {
 /// for `replay` and `sample`, its one word. An option's value is the next word or what stands after `=`. A number
 /// has no leading zero and lies from 1 to 64 for workers, from 1 to 200 for a sample. No file's name is empty or
 /// begins with `-`. Without `--workers` there are 4.
-#[tactic(auto, unfolding(crate::specs::Words::command_of))]
+#[tactic(auto, unfolding(crate::specs::CommandLine::command_of))]
 pub fn read_words(alloc: Global, words: &[String]) -> Result<Command, WordsRefusal>
     ensures { Answers (command_of (texts_of words.now)) result }
 {
     let Some((word, rest)) = words.split_first() else {
         return Err(WordsRefusal::Usage);
     };
-    let parts = parts(alloc, rest)?;
-    let given = given(alloc, parts.as_slice())?;
+    let arguments = arguments(alloc, rest)?;
+    let given = given(alloc, arguments.as_slice())?;
     named(alloc, word.as_str(), given)
 }
 
-// What the words behind the command's are, in their order.
-fn parts(alloc: Global, words: &[String]) -> Result<Items<Part>, WordsRefusal>
-    ensures { AreParts (parts_of None (texts_of words.now)) result }
+// What the words after the command's are, in their order.
+fn arguments(alloc: Global, words: &[String]) -> Result<Items<Argument>, WordsRefusal>
+    ensures { AreArguments (arguments_of None (texts_of words.now)) result }
 {
-    let mut parts = Items::create(alloc);
+    let mut arguments = Items::create(alloc);
     let mut waiting = None;
     for word in words {
         match take_word(alloc, waiting, word.as_str())? {
-            Taken::Whole(part) => {
-                parts.push(part)?;
+            Taken::Whole(argument) => {
+                arguments.push(argument)?;
                 waiting = None;
             }
             Taken::Open(option) => waiting = Some(option),
@@ -89,37 +89,37 @@ fn parts(alloc: Global, words: &[String]) -> Result<Items<Part>, WordsRefusal>
     }
     match waiting {
         Some(_) => Err(WordsRefusal::Usage),
-        None => Ok(parts),
+        None => Ok(arguments),
     }
 }
 
-fn is_given(given: &Given, part: &Part) -> bool
-    ensures { result ≡ spoken.is_given given.now part.now }
+fn is_given(given: &Given, argument: &Argument) -> bool
+    ensures { result ≡ defined.is_given given.now argument.now }
 {
-    match part {
-        Part::Workers(_) => given.workers.is_some(),
-        Part::Json => given.json,
-        Part::Profile(_) => given.profile.is_some(),
-        Part::Plain(_) => given.plain.is_some(),
+    match argument {
+        Argument::Workers(_) => given.workers.is_some(),
+        Argument::Json => given.json,
+        Argument::Profile(_) => given.profile.is_some(),
+        Argument::Plain(_) => given.plain.is_some(),
     }
 }
 
-fn with_part(alloc: Global, given: Given, part: &Part) -> Result<Given, NoMemory>
-    ensures { IfOk result (λ made. made ≡ spoken.with_part given part.now) }
+fn with_argument(alloc: Global, given: Given, argument: &Argument) -> Result<Given, NoMemory>
+    ensures { IfOk result (λ made. made ≡ defined.with_argument given argument.now) }
 {
     let mut made = given;
-    match part {
-        Part::Workers(workers) => made.workers = Some(*workers),
-        Part::Json => made.json = true,
-        Part::Profile(file) => made.profile = Some(Text::of(alloc, file.as_str())?),
-        Part::Plain(word) => made.plain = Some(Text::of(alloc, word.as_str())?),
+    match argument {
+        Argument::Workers(workers) => made.workers = Some(*workers),
+        Argument::Json => made.json = true,
+        Argument::Profile(file) => made.profile = Some(Text::of(alloc, file.as_str())?),
+        Argument::Plain(word) => made.plain = Some(Text::of(alloc, word.as_str())?),
     }
     Ok(made)
 }
 
-// What the parts give, where no two are the same.
-fn given(alloc: Global, parts: &[Part]) -> Result<Given, WordsRefusal>
-    ensures { IsGiven (spoken.given parts.now) result }
+// What the arguments give, where no two are the same.
+fn given(alloc: Global, arguments: &[Argument]) -> Result<Given, WordsRefusal>
+    ensures { IsGiven (defined.given arguments.now) result }
 {
     let mut given = Given {
         workers: None,
@@ -127,24 +127,24 @@ fn given(alloc: Global, parts: &[Part]) -> Result<Given, WordsRefusal>
         profile: None,
         plain: None,
     };
-    for part in parts {
-        if is_given(&given, part) {
+    for argument in arguments {
+        if is_given(&given, argument) {
             return Err(WordsRefusal::Usage);
         }
-        given = with_part(alloc, given, part)?;
+        given = with_argument(alloc, given, argument)?;
     }
     Ok(given)
 }
 
 // Four workers, where no number is given.
 fn or_four(workers: Option<u32>) -> u32
-    ensures { result ≡ spoken.or_four workers }
+    ensures { result ≡ defined.or_four workers }
 {
     workers.unwrap_or(4)
 }
 
 fn scan(given: Given) -> Result<Command, WordsRefusal>
-    ensures { Answers (spoken.scan given) result }
+    ensures { Answers (defined.scan given) result }
 {
     let Given {
         workers,
@@ -163,7 +163,7 @@ fn scan(given: Given) -> Result<Command, WordsRefusal>
 }
 
 fn replay(given: Given) -> Result<Command, WordsRefusal>
-    ensures { Answers (spoken.replay given) result }
+    ensures { Answers (defined.replay given) result }
 {
     let Given {
         workers,
@@ -181,7 +181,7 @@ fn replay(given: Given) -> Result<Command, WordsRefusal>
 }
 
 fn sample(alloc: Global, given: Given) -> Result<Command, WordsRefusal>
-    ensures { Answers (spoken.sample given) result }
+    ensures { Answers (defined.sample given) result }
 {
     let Given {
         workers,
@@ -205,7 +205,7 @@ fn sample(alloc: Global, given: Given) -> Result<Command, WordsRefusal>
 }
 
 fn named(alloc: Global, word: &str, given: Given) -> Result<Command, WordsRefusal>
-    ensures { Answers (spoken.named word.now given) result }
+    ensures { Answers (defined.named word.now given) result }
 {
     if word == "scan" {
         scan(given)

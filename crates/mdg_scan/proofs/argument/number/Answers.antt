@@ -1,7 +1,7 @@
 use Rattle.std.proofs.Common.{sym, ap, ◌∙◌, arith, bytes_eq}
-use Rattle.mdg_scan.proofs.WordLemmas.{not_read, number_zero, number_past, other_spelling, same_spelling}
-use Rattle.mdg_scan.proofs.part.number.Goals as goal
-use Rattle.mdg_scan.proofs.part.number.Goals.{then-number-eq0-via-then-number-eq0, then-number-eq0-via-else-number-eq0+then-number-limit}
+use Rattle.mdg_scan.proofs.CommandLineLemmas.{not_read, number_zero, number_past, other_spelling, same_spelling}
+use Rattle.mdg_scan.proofs.argument.number.Goals as goal
+use Rattle.mdg_scan.proofs.argument.number.Goals.{then-number-eq0-via-then-number-eq0, then-number-eq0-via-else-number-eq0+then-number-limit}
 
 pub returns-in_default : goal.returns-in_default
 returns-in_default c = sym (not_read c.args.limit c.args.text.now _ _ c.requires c.parse.ensures.value.0 c.in_default.is)

@@ -1,13 +1,13 @@
 //! One word of the command line.
 ghost use Rattle.std.specs.Prelude.{◌≡◌, ◌<◌, List, ℕ, IfOk};
-ghost use Rattle.mdg_scan.specs.Words as spoken;
+ghost use Rattle.mdg_scan.specs.CommandLine as defined;
 
 use mdg_base::{NoMemory, Text};
 use std::alloc::Global;
 
 /// An option with its value, a flag, or a word that is no option.
 #[derive(Debug, Drop)]
-pub enum Part {
+pub enum Argument {
     Workers(u32),
     Json,
     Profile(Text),
@@ -24,7 +24,7 @@ pub enum Valued {
 /// What one more word makes.
 #[derive(Debug, Drop)]
 pub enum Taken {
-    Whole(Part),
+    Whole(Argument),
 
     /// The option's value is the next word.
     Open(Valued),
@@ -41,10 +41,10 @@ pub struct Given {
 }
 
 /// The number from 1 to the limit that the text spells, without leading zeros.
-#[tactic(auto, unfolding(crate::specs::Words::number_up_to))]
+#[tactic(auto, unfolding(crate::specs::CommandLine::number_up_to))]
 pub fn number(alloc: Global, text: &str, limit: u32) -> Result<Option<u32>, NoMemory>
     requires { limit < 1000 }
-    ensures { IfOk result (λ found. found ≡ spoken.number_up_to limit text.now) }
+    ensures { IfOk result (λ found. found ≡ defined.number_up_to limit text.now) }
 {
     let Ok(number) = text.parse::<u32>() else {
         return Ok(None);
@@ -62,7 +62,7 @@ pub fn number(alloc: Global, text: &str, limit: u32) -> Result<Option<u32>, NoMe
 
 // A file's name isn't empty, and doesn't begin with `-`.
 fn is_value(text: &str) -> bool
-    ensures { result ≡ spoken.is_value text.now }
+    ensures { result ≡ defined.is_value text.now }
 {
     match text.as_bytes() {
         [] => false,
@@ -71,16 +71,16 @@ fn is_value(text: &str) -> bool
 }
 
 fn with_value(alloc: Global, option: Valued, value: &str) -> Result<Taken, NoMemory>
-    ensures { IfOk result (λ taken. taken ≡ spoken.with_value option value.now) }
+    ensures { IfOk result (λ taken. taken ≡ defined.with_value option value.now) }
 {
     match option {
         Valued::Workers => match number(alloc, value, 64)? {
-            Some(workers) => Ok(Taken::Whole(Part::Workers(workers))),
+            Some(workers) => Ok(Taken::Whole(Argument::Workers(workers))),
             None => Ok(Taken::Wrong),
         },
         Valued::Profile => {
             if is_value(value) {
-                Ok(Taken::Whole(Part::Profile(Text::of(alloc, value)?)))
+                Ok(Taken::Whole(Argument::Profile(Text::of(alloc, value)?)))
             } else {
                 Ok(Taken::Wrong)
             }
@@ -90,10 +90,10 @@ fn with_value(alloc: Global, option: Valued, value: &str) -> Result<Taken, NoMem
 
 // A word that is no option.
 fn plain(alloc: Global, word: &str) -> Result<Taken, NoMemory>
-    ensures { IfOk result (λ taken. taken ≡ spoken.plain word.now) }
+    ensures { IfOk result (λ taken. taken ≡ defined.plain word.now) }
 {
     if is_value(word) {
-        Ok(Taken::Whole(Part::Plain(Text::of(alloc, word)?)))
+        Ok(Taken::Whole(Argument::Plain(Text::of(alloc, word)?)))
     } else {
         Ok(Taken::Wrong)
     }
@@ -101,10 +101,10 @@ fn plain(alloc: Global, word: &str) -> Result<Taken, NoMemory>
 
 // A word without `=`.
 fn alone(alloc: Global, word: &str) -> Result<Taken, NoMemory>
-    ensures { IfOk result (λ taken. taken ≡ spoken.alone word.now) }
+    ensures { IfOk result (λ taken. taken ≡ defined.alone word.now) }
 {
     if word == "--json" {
-        Ok(Taken::Whole(Part::Json))
+        Ok(Taken::Whole(Argument::Json))
     } else if word == "--workers" {
         Ok(Taken::Open(Valued::Workers))
     } else if word == "--profile" {
@@ -116,7 +116,7 @@ fn alone(alloc: Global, word: &str) -> Result<Taken, NoMemory>
 
 // A word with `=`, and what stands on its two sides.
 fn joined(alloc: Global, word: &str, name: &str, value: &str) -> Result<Taken, NoMemory>
-    ensures { IfOk result (λ taken. taken ≡ spoken.joined word.now name.now value.now) }
+    ensures { IfOk result (λ taken. taken ≡ defined.joined word.now name.now value.now) }
 {
     if name == "--workers" {
         with_value(alloc, Valued::Workers, value)
@@ -129,7 +129,7 @@ fn joined(alloc: Global, word: &str, name: &str, value: &str) -> Result<Taken, N
 
 // A word where no value is due.
 fn begun(alloc: Global, word: &str) -> Result<Taken, NoMemory>
-    ensures { IfOk result (λ taken. taken ≡ spoken.begun word.now) }
+    ensures { IfOk result (λ taken. taken ≡ defined.begun word.now) }
 {
     match word.split_once('=') {
         Some((name, value)) => joined(alloc, word, name, value),
@@ -139,7 +139,7 @@ fn begun(alloc: Global, word: &str) -> Result<Taken, NoMemory>
 
 /// What the word is, where it may be the value of the word before it.
 pub fn take_word(alloc: Global, waiting: Option<Valued>, word: &str) -> Result<Taken, NoMemory>
-    ensures { IfOk result (λ taken. taken ≡ spoken.take_word waiting word.now) }
+    ensures { IfOk result (λ taken. taken ≡ defined.take_word waiting word.now) }
 {
     match waiting {
         Some(option) => with_value(alloc, option, word),

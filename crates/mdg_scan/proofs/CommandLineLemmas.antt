@@ -12,12 +12,12 @@ use Rattle.std.proofs.lemmas.List.{drop_more, drop_all, take_more, take-append-d
 use Rattle.std.proofs.lemmas.List.Elements.{filter_map-append}
 use Rattle.std.proofs.lemmas.Slice.Eq.{bytes_eq-Decides}
 use Rattle.std.specs.Str.Parse.{ParsesUnsigned}
-use Rattle.mdg_scan.specs.declared.part.Part.{Part}
-use Rattle.mdg_scan.specs.declared.part.Part.TheVariants as part
-use Rattle.mdg_scan.specs.declared.part.Valued.{Valued}
-use Rattle.mdg_scan.specs.declared.part.Taken.TheVariants.{Whole, Open, Wrong}
-use Rattle.mdg_scan.specs.declared.part.Given.{Given}
-use Rattle.mdg_scan.specs.Words.{number_up_to, take_word, prepended, followed, parts_of, texts_of, workers_in, json_in, profile_in, plain_in, at_most_one, is_there, given_by, given, is_given, with_part}
+use Rattle.mdg_scan.specs.declared.argument.Argument.{Argument}
+use Rattle.mdg_scan.specs.declared.argument.Argument.TheVariants as argument
+use Rattle.mdg_scan.specs.declared.argument.Valued.{Valued}
+use Rattle.mdg_scan.specs.declared.argument.Taken.TheVariants.{Whole, Open, Wrong}
+use Rattle.mdg_scan.specs.declared.argument.Given.{Given}
+use Rattle.mdg_scan.specs.CommandLine.{number_up_to, take_word, prepended, followed, arguments_of, texts_of, workers_in, json_in, profile_in, plain_in, at_most_one, is_there, given_by, given, is_given, with_argument}
 
 ok_is : {A E : Type 0} (a b : A) → ◌≡◌ {A = Result A E} (Ok a) (Ok b) → a ≡ b
 ok_is a b same = cc
@@ -80,53 +80,53 @@ other_spelling limit text r number small parses read differs =
 pub same_spelling : (limit : ℕ) (text : List ℕ) (number : ℕ) → limit < 1000 → 1 ≤ number → number ≤ limit → bytes_eq (decimal number) text ≡ true → number_up_to limit text ≡ Some number
 same_spelling limit text number small low high same = one_number limit number text low high small (sym ((bytes_eq-Decides (decimal number) text).0 same))
 
--- ---- the words behind the command's
+-- ---- the words after the command
 
-from_word : (waiting : Option Valued) (word : List ℕ) (words : List (List ℕ)) → parts_of waiting (word ∷ words) ≡ followed (take_word waiting word) (λ next. parts_of next words)
-unfolding parts_of
+from_word : (waiting : Option Valued) (word : List ℕ) (words : List (List ℕ)) → arguments_of waiting (word ∷ words) ≡ followed (take_word waiting word) (λ next. arguments_of next words)
+unfolding arguments_of
 from_word None word words = refl
 from_word (Some option) word words = refl
 
-no_words : parts_of None [] ≡ Some []
-unfolding parts_of
+no_words : arguments_of None [] ≡ Some []
+unfolding arguments_of
 no_words = refl
 
-no_value : (option : Valued) → parts_of (Some option) [] ≡ None
-unfolding parts_of
+no_value : (option : Valued) → arguments_of (Some option) [] ≡ None
+unfolding arguments_of
 no_value option = refl
 
-one_prepended : (parts : List Part) (p : Part) (rest : Option (List Part)) → prepended parts (prepended (p ∷ []) rest) ≡ prepended (parts ++ p ∷ []) rest
-one_prepended parts p None = refl
-one_prepended parts p (Some rest) = ap Some (sym (append_assoc parts (p ∷ []) rest))
+one_prepended : (arguments : List Argument) (p : Argument) (rest : Option (List Argument)) → prepended arguments (prepended (p ∷ []) rest) ≡ prepended (arguments ++ p ∷ []) rest
+one_prepended arguments p None = refl
+one_prepended arguments p (Some rest) = ap Some (sym (append_assoc arguments (p ∷ []) rest))
 
 -- one more of the words
 module _ (words : List (String Global)) (i : ℕ) (word : String Global) (inside : i < length words) (at : word ≡ get_or words i word) (waiting : Option Valued) where
   texts_more : texts_of (drop i words) ≡ string_bytes word ∷ texts_of (drop (i + 1) words)
   texts_more = ap texts_of (drop_more words i word inside) ∙ ap (λ w. string_bytes w ∷ texts_of (drop (i + 1) words)) (sym at)
 
-  parts_from : parts_of waiting (texts_of (drop i words)) ≡ followed (take_word waiting (string_bytes word)) (λ next. parts_of next (texts_of (drop (i + 1) words)))
-  parts_from = ap (parts_of waiting) texts_more ∙ from_word waiting (string_bytes word) (texts_of (drop (i + 1) words))
+  arguments_from : arguments_of waiting (texts_of (drop i words)) ≡ followed (take_word waiting (string_bytes word)) (λ next. arguments_of next (texts_of (drop (i + 1) words)))
+  arguments_from = ap (arguments_of waiting) texts_more ∙ from_word waiting (string_bytes word) (texts_of (drop (i + 1) words))
 
-  pub word_whole : (parts : List Part) (p : Part) → take_word waiting (string_bytes word) ≡ Whole p
-      → prepended parts (parts_of waiting (texts_of (drop i words))) ≡ prepended (parts ++ p ∷ []) (parts_of None (texts_of (drop (i + 1) words)))
-  word_whole parts p is =
-      ap (prepended parts) (parts_from ∙ ap (λ t. followed t (λ next. parts_of next (texts_of (drop (i + 1) words)))) is)
-      ∙ one_prepended parts p (parts_of None (texts_of (drop (i + 1) words)))
+  pub word_whole : (arguments : List Argument) (p : Argument) → take_word waiting (string_bytes word) ≡ Whole p
+      → prepended arguments (arguments_of waiting (texts_of (drop i words))) ≡ prepended (arguments ++ p ∷ []) (arguments_of None (texts_of (drop (i + 1) words)))
+  word_whole arguments p is =
+      ap (prepended arguments) (arguments_from ∙ ap (λ t. followed t (λ next. arguments_of next (texts_of (drop (i + 1) words)))) is)
+      ∙ one_prepended arguments p (arguments_of None (texts_of (drop (i + 1) words)))
 
-  pub word_open : (parts : List Part) (option : Valued) → take_word waiting (string_bytes word) ≡ Open option
-      → prepended parts (parts_of waiting (texts_of (drop i words))) ≡ prepended parts (parts_of (Some option) (texts_of (drop (i + 1) words)))
-  word_open parts option is = ap (prepended parts) (parts_from ∙ ap (λ t. followed t (λ next. parts_of next (texts_of (drop (i + 1) words)))) is)
+  pub word_open : (arguments : List Argument) (option : Valued) → take_word waiting (string_bytes word) ≡ Open option
+      → prepended arguments (arguments_of waiting (texts_of (drop i words))) ≡ prepended arguments (arguments_of (Some option) (texts_of (drop (i + 1) words)))
+  word_open arguments option is = ap (prepended arguments) (arguments_from ∙ ap (λ t. followed t (λ next. arguments_of next (texts_of (drop (i + 1) words)))) is)
 
-  pub word_wrong : (parts : List Part) → take_word waiting (string_bytes word) ≡ Wrong → prepended parts (parts_of waiting (texts_of (drop i words))) ≡ None
-  word_wrong parts is = ap (prepended parts) (parts_from ∙ ap (λ t. followed t (λ next. parts_of next (texts_of (drop (i + 1) words)))) is)
+  pub word_wrong : (arguments : List Argument) → take_word waiting (string_bytes word) ≡ Wrong → prepended arguments (arguments_of waiting (texts_of (drop i words))) ≡ None
+  word_wrong arguments is = ap (prepended arguments) (arguments_from ∙ ap (λ t. followed t (λ next. arguments_of next (texts_of (drop (i + 1) words)))) is)
 
 -- no more words
 module _ (words : List (String Global)) (i : ℕ) (past : length words ≤ i) where
-  pub words_end : (parts : List Part) → prepended parts (parts_of None (texts_of (drop i words))) ≡ Some parts
-  words_end parts = ap (λ ws. prepended parts (parts_of None (texts_of ws))) (drop_all i words past) ∙ ap (prepended parts) no_words ∙ ap Some (append-nil parts)
+  pub words_end : (arguments : List Argument) → prepended arguments (arguments_of None (texts_of (drop i words))) ≡ Some arguments
+  words_end arguments = ap (λ ws. prepended arguments (arguments_of None (texts_of ws))) (drop_all i words past) ∙ ap (prepended arguments) no_words ∙ ap Some (append-nil arguments)
 
-  pub words_open_end : (parts : List Part) (option : Valued) → prepended parts (parts_of (Some option) (texts_of (drop i words))) ≡ None
-  words_open_end parts option = ap (λ ws. prepended parts (parts_of (Some option) (texts_of ws))) (drop_all i words past) ∙ ap (prepended parts) (no_value option)
+  pub words_open_end : (arguments : List Argument) (option : Valued) → prepended arguments (arguments_of (Some option) (texts_of (drop i words))) ≡ None
+  words_open_end arguments option = ap (λ ws. prepended arguments (arguments_of (Some option) (texts_of ws))) (drop_all i words past) ∙ ap (prepended arguments) (no_value option)
 
 -- ---- each at most once
 
@@ -140,7 +140,7 @@ too_many [] x y rest is = absurd (cc)
 too_many (z ∷ []) x y rest is = refl
 too_many (z ∷ w ∷ ys) x y rest is = absurd (cc)
 
--- how the parts give what is given
+-- how the arguments give what is given
 record Are (workers : Option (Option ℕ)) (json : Option (Option Unit)) (profile plain : Option (Option (List ℕ))) (g : Given) : Type 0 where
   flag : Option Unit
   of_workers : workers ≡ Some g.workers
@@ -158,26 +158,26 @@ are (Some w) (Some j) (Some p) (Some f) g is =
     let same : record { workers = w; json = is_there j; profile = p; plain = f } ≡ g = some_is _ _ is in
     record { flag = j; of_workers = ap (λ (x : Given). Some x.workers) same; of_json = refl; of_profile = ap (λ (x : Given). Some x.profile) same; of_plain = ap (λ (x : Given). Some x.plain) same; flag_is = ap (λ (x : Given). x.json) same }
 
-all_are : (parts : List Part) (g : Given) → given parts ≡ Some g → Are (at_most_one (filter_map workers_in parts)) (at_most_one (filter_map json_in parts)) (at_most_one (filter_map profile_in parts)) (at_most_one (filter_map plain_in parts)) g
+all_are : (arguments : List Argument) (g : Given) → given arguments ≡ Some g → Are (at_most_one (filter_map workers_in arguments)) (at_most_one (filter_map json_in arguments)) (at_most_one (filter_map profile_in arguments)) (at_most_one (filter_map plain_in arguments)) g
 unfolding given
-all_are parts g is = are _ _ _ _ g is
+all_are arguments g is = are _ _ _ _ g is
 
-given_as : (parts : List Part) (w : Option (Option ℕ)) (j : Option (Option Unit)) (p f : Option (Option (List ℕ)))
-    → at_most_one (filter_map workers_in parts) ≡ w → at_most_one (filter_map json_in parts) ≡ j → at_most_one (filter_map profile_in parts) ≡ p → at_most_one (filter_map plain_in parts) ≡ f
-    → given parts ≡ given_by w j p f
+given_as : (arguments : List Argument) (w : Option (Option ℕ)) (j : Option (Option Unit)) (p f : Option (Option (List ℕ)))
+    → at_most_one (filter_map workers_in arguments) ≡ w → at_most_one (filter_map json_in arguments) ≡ j → at_most_one (filter_map profile_in arguments) ≡ p → at_most_one (filter_map plain_in arguments) ≡ f
+    → given arguments ≡ given_by w j p f
 unfolding given
-given_as parts w j p f a b c d = rw (a, b, c, d) refl
+given_as arguments w j p f a b c d = rw (a, b, c, d) refl
 
--- one more part of another kind
-same_kind : {A : Type 0} (kind : Part → Option A) (xs : List Part) (p : Part) (o : Option (Option A)) → filter_map kind (p ∷ []) ≡ [] → at_most_one (filter_map kind xs) ≡ o → at_most_one (filter_map kind (xs ++ p ∷ [])) ≡ o
+-- one more argument of another kind
+same_kind : {A : Type 0} (kind : Argument → Option A) (xs : List Argument) (p : Argument) (o : Option (Option A)) → filter_map kind (p ∷ []) ≡ [] → at_most_one (filter_map kind xs) ≡ o → at_most_one (filter_map kind (xs ++ p ∷ [])) ≡ o
 same_kind kind xs p o other is = ap at_most_one (filter_map-append kind xs (p ∷ []) ∙ ap (λ ys. filter_map kind xs ++ ys) other ∙ append-nil (filter_map kind xs)) ∙ is
 
--- the first part of a kind
-new_kind : {A : Type 0} (kind : Part → Option A) (xs : List Part) (p : Part) (x : A) → filter_map kind (p ∷ []) ≡ x ∷ [] → at_most_one (filter_map kind xs) ≡ Some None → at_most_one (filter_map kind (xs ++ p ∷ [])) ≡ Some (Some x)
+-- the first argument of a kind
+new_kind : {A : Type 0} (kind : Argument → Option A) (xs : List Argument) (p : Argument) (x : A) → filter_map kind (p ∷ []) ≡ x ∷ [] → at_most_one (filter_map kind xs) ≡ Some None → at_most_one (filter_map kind (xs ++ p ∷ [])) ≡ Some (Some x)
 new_kind kind xs p x one is = ap at_most_one (filter_map-append kind xs (p ∷ []) ∙ ap (λ ys. filter_map kind xs ++ ys) one) ∙ one_more (filter_map kind xs) x is
 
--- another part of a kind
-kind_twice : {A : Type 0} (kind : Part → Option A) (xs : List Part) (p : Part) (rest : List Part) (x y : A) (more : List A) → filter_map kind (p ∷ rest) ≡ x ∷ more → at_most_one (filter_map kind xs) ≡ Some (Some y) → at_most_one (filter_map kind (xs ++ p ∷ rest)) ≡ None
+-- another argument of a kind
+kind_twice : {A : Type 0} (kind : Argument → Option A) (xs : List Argument) (p : Argument) (rest : List Argument) (x y : A) (more : List A) → filter_map kind (p ∷ rest) ≡ x ∷ more → at_most_one (filter_map kind xs) ≡ Some (Some y) → at_most_one (filter_map kind (xs ++ p ∷ rest)) ≡ None
 kind_twice kind xs p rest x y more one is = ap at_most_one (filter_map-append kind xs (p ∷ rest) ∙ ap (λ ys. filter_map kind xs ++ ys) one) ∙ too_many (filter_map kind xs) x y more is
 
 not_there : {A : Type 0} (o : Option A) → is_there o ≡ false → o ≡ None
@@ -188,21 +188,21 @@ there : {A : Type 0} (o : Option A) → is_there o ≡ true → (x : A) × (o �
 there None is = absurd (cc)
 there (Some x) is = (x, refl)
 
-given_more : (xs : List Part) (p : Part) (g : Given) → given xs ≡ Some g → is_given g p ≡ false → given (xs ++ p ∷ []) ≡ Some (with_part g p)
-given_more xs (part.Workers n) g is new =
+given_more : (xs : List Argument) (p : Argument) (g : Given) → given xs ≡ Some g → is_given g p ≡ false → given (xs ++ p ∷ []) ≡ Some (with_argument g p)
+given_more xs (argument.Workers n) g is new =
     let a = all_are xs g is in
-    given_as _ _ _ _ _ (new_kind workers_in xs (part.Workers n) n refl (a.of_workers ∙ ap Some (not_there g.workers new))) (same_kind json_in xs (part.Workers n) _ refl a.of_json) (same_kind profile_in xs (part.Workers n) _ refl a.of_profile) (same_kind plain_in xs (part.Workers n) _ refl a.of_plain)
+    given_as _ _ _ _ _ (new_kind workers_in xs (argument.Workers n) n refl (a.of_workers ∙ ap Some (not_there g.workers new))) (same_kind json_in xs (argument.Workers n) _ refl a.of_json) (same_kind profile_in xs (argument.Workers n) _ refl a.of_profile) (same_kind plain_in xs (argument.Workers n) _ refl a.of_plain)
     ∙ ap (λ b. Some (record { workers = Some n; json = b; profile = g.profile; plain = g.plain })) a.flag_is
-given_more xs part.Json g is new =
+given_more xs argument.Json g is new =
     let a = all_are xs g is in
-    given_as _ _ _ _ _ (same_kind workers_in xs part.Json _ refl a.of_workers) (new_kind json_in xs part.Json tt refl (a.of_json ∙ ap Some (not_there a.flag (a.flag_is ∙ new)))) (same_kind profile_in xs part.Json _ refl a.of_profile) (same_kind plain_in xs part.Json _ refl a.of_plain)
-given_more xs (part.Profile file) g is new =
+    given_as _ _ _ _ _ (same_kind workers_in xs argument.Json _ refl a.of_workers) (new_kind json_in xs argument.Json tt refl (a.of_json ∙ ap Some (not_there a.flag (a.flag_is ∙ new)))) (same_kind profile_in xs argument.Json _ refl a.of_profile) (same_kind plain_in xs argument.Json _ refl a.of_plain)
+given_more xs (argument.Profile file) g is new =
     let a = all_are xs g is in
-    given_as _ _ _ _ _ (same_kind workers_in xs (part.Profile file) _ refl a.of_workers) (same_kind json_in xs (part.Profile file) _ refl a.of_json) (new_kind profile_in xs (part.Profile file) file refl (a.of_profile ∙ ap Some (not_there g.profile new))) (same_kind plain_in xs (part.Profile file) _ refl a.of_plain)
+    given_as _ _ _ _ _ (same_kind workers_in xs (argument.Profile file) _ refl a.of_workers) (same_kind json_in xs (argument.Profile file) _ refl a.of_json) (new_kind profile_in xs (argument.Profile file) file refl (a.of_profile ∙ ap Some (not_there g.profile new))) (same_kind plain_in xs (argument.Profile file) _ refl a.of_plain)
     ∙ ap (λ b. Some (record { workers = g.workers; json = b; profile = Some file; plain = g.plain })) a.flag_is
-given_more xs (part.Plain word) g is new =
+given_more xs (argument.Plain word) g is new =
     let a = all_are xs g is in
-    given_as _ _ _ _ _ (same_kind workers_in xs (part.Plain word) _ refl a.of_workers) (same_kind json_in xs (part.Plain word) _ refl a.of_json) (same_kind profile_in xs (part.Plain word) _ refl a.of_profile) (new_kind plain_in xs (part.Plain word) word refl (a.of_plain ∙ ap Some (not_there g.plain new)))
+    given_as _ _ _ _ _ (same_kind workers_in xs (argument.Plain word) _ refl a.of_workers) (same_kind json_in xs (argument.Plain word) _ refl a.of_json) (same_kind profile_in xs (argument.Plain word) _ refl a.of_profile) (new_kind plain_in xs (argument.Plain word) word refl (a.of_plain ∙ ap Some (not_there g.plain new)))
     ∙ ap (λ b. Some (record { workers = g.workers; json = b; profile = g.profile; plain = Some word })) a.flag_is
 
 no_given : (w : Option (Option ℕ)) (j : Option (Option Unit)) (p f : Option (Option (List ℕ))) → (w ≡ None) ⊎ (j ≡ None) ⊎ (p ≡ None) ⊎ (f ≡ None) → given_by w j p f ≡ None
@@ -215,34 +215,34 @@ no_given (Some w) (Some j) (Some p) (Some f) (inr (inl is)) = absurd (cc)
 no_given (Some w) (Some j) (Some p) (Some f) (inr (inr (inl is))) = absurd (cc)
 no_given (Some w) (Some j) (Some p) (Some f) (inr (inr (inr is))) = absurd (cc)
 
-given_twice : (xs : List Part) (p : Part) (rest : List Part) (g : Given) → given xs ≡ Some g → is_given g p ≡ true → given (xs ++ p ∷ rest) ≡ None
-given_twice xs (part.Workers n) rest g is old =
+given_twice : (xs : List Argument) (p : Argument) (rest : List Argument) (g : Given) → given xs ≡ Some g → is_given g p ≡ true → given (xs ++ p ∷ rest) ≡ None
+given_twice xs (argument.Workers n) rest g is old =
     let a = all_are xs g is in
     let x = there g.workers old in
-    given_as (xs ++ part.Workers n ∷ rest) _ _ _ _ refl refl refl refl ∙ no_given _ _ _ _ (inl (kind_twice workers_in xs (part.Workers n) rest n x.0 _ refl (a.of_workers ∙ ap Some x.1)))
-given_twice xs part.Json rest g is old =
+    given_as (xs ++ argument.Workers n ∷ rest) _ _ _ _ refl refl refl refl ∙ no_given _ _ _ _ (inl (kind_twice workers_in xs (argument.Workers n) rest n x.0 _ refl (a.of_workers ∙ ap Some x.1)))
+given_twice xs argument.Json rest g is old =
     let a = all_are xs g is in
     let x = there a.flag (a.flag_is ∙ old) in
-    given_as (xs ++ part.Json ∷ rest) _ _ _ _ refl refl refl refl ∙ no_given _ _ _ _ (inr (inl (kind_twice json_in xs part.Json rest tt x.0 _ refl (a.of_json ∙ ap Some x.1))))
-given_twice xs (part.Profile file) rest g is old =
+    given_as (xs ++ argument.Json ∷ rest) _ _ _ _ refl refl refl refl ∙ no_given _ _ _ _ (inr (inl (kind_twice json_in xs argument.Json rest tt x.0 _ refl (a.of_json ∙ ap Some x.1))))
+given_twice xs (argument.Profile file) rest g is old =
     let a = all_are xs g is in
     let x = there g.profile old in
-    given_as (xs ++ part.Profile file ∷ rest) _ _ _ _ refl refl refl refl ∙ no_given _ _ _ _ (inr (inr (inl (kind_twice profile_in xs (part.Profile file) rest file x.0 _ refl (a.of_profile ∙ ap Some x.1)))))
-given_twice xs (part.Plain word) rest g is old =
+    given_as (xs ++ argument.Profile file ∷ rest) _ _ _ _ refl refl refl refl ∙ no_given _ _ _ _ (inr (inr (inl (kind_twice profile_in xs (argument.Profile file) rest file x.0 _ refl (a.of_profile ∙ ap Some x.1)))))
+given_twice xs (argument.Plain word) rest g is old =
     let a = all_are xs g is in
     let x = there g.plain old in
-    given_as (xs ++ part.Plain word ∷ rest) _ _ _ _ refl refl refl refl ∙ no_given _ _ _ _ (inr (inr (inr (kind_twice plain_in xs (part.Plain word) rest word x.0 _ refl (a.of_plain ∙ ap Some x.1)))))
+    given_as (xs ++ argument.Plain word ∷ rest) _ _ _ _ refl refl refl refl ∙ no_given _ _ _ _ (inr (inr (inr (kind_twice plain_in xs (argument.Plain word) rest word x.0 _ refl (a.of_plain ∙ ap Some x.1)))))
 
-pub no_parts : given [] ≡ Some (record { workers = None; json = false; profile = None; plain = None })
+pub no_arguments : given [] ≡ Some (record { workers = None; json = false; profile = None; plain = None })
 unfolding given
-no_parts = refl
+no_arguments = refl
 
--- one more of the parts
-module _ (parts : List Part) (i : ℕ) (p : Part) (inside : i < length parts) (at : p ≡ get_or parts i p) (g : Given) (so_far : given (take i parts) ≡ Some g) where
-  pub parts_more : is_given g p ≡ false → given (take (i + 1) parts) ≡ Some (with_part g p)
-  parts_more new = ap given (take_more parts i p inside ∙ ap (λ x. take i parts ++ x ∷ []) (sym at)) ∙ given_more (take i parts) p g so_far new
+-- one more of the arguments
+module _ (arguments : List Argument) (i : ℕ) (p : Argument) (inside : i < length arguments) (at : p ≡ get_or arguments i p) (g : Given) (so_far : given (take i arguments) ≡ Some g) where
+  pub arguments_more : is_given g p ≡ false → given (take (i + 1) arguments) ≡ Some (with_argument g p)
+  arguments_more new = ap given (take_more arguments i p inside ∙ ap (λ x. take i arguments ++ x ∷ []) (sym at)) ∙ given_more (take i arguments) p g so_far new
 
-  pub parts_twice : is_given g p ≡ true → given parts ≡ None
-  parts_twice old =
-      let parts_are : parts ≡ take i parts ++ p ∷ drop (i + 1) parts = sym (take-append-drop i parts) ∙ ap (λ ys. take i parts ++ ys) (drop_more parts i p inside ∙ ap (λ x. x ∷ drop (i + 1) parts) (sym at)) in
-      ap given parts_are ∙ given_twice (take i parts) p (drop (i + 1) parts) g so_far old
+  pub arguments_twice : is_given g p ≡ true → given arguments ≡ None
+  arguments_twice old =
+      let arguments_are : arguments ≡ take i arguments ++ p ∷ drop (i + 1) arguments = sym (take-append-drop i arguments) ∙ ap (λ ys. take i arguments ++ ys) (drop_more arguments i p inside ∙ ap (λ x. x ∷ drop (i + 1) arguments) (sym at)) in
+      ap given arguments_are ∙ given_twice (take i arguments) p (drop (i + 1) arguments) g so_far old

@@ -1,4 +1,4 @@
-use crate::words::{Command, WordsRefusal, read_words};
+use crate::command_line::{Command, WordsRefusal, read_words};
 use mdg_base::Text;
 use std::alloc::Global;
 use std::test::Fail;
