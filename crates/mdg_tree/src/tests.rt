@@ -3,7 +3,7 @@
 ghost use Rattle.std.specs.Prelude.{◌≤◌, IfOk};
 ghost use Rattle.mdg_tree.specs.Height as heights;
 
-use crate::{At, Expr, FileTree, Key, Stmt, copy, height, key_name, name_of, string_of};
+use crate::{At, Expr, FileTree, Stmt, copy, height};
 use mdg_base::{Items, NoMemory, Text};
 use sqlite_items::Boxed;
 use std::alloc::Global;
