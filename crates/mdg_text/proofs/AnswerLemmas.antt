@@ -1,5 +1,5 @@
 -- Bytes have one answer but for the refusal of memory: at most one, and at least one.
-use Rattle.std.proofs.Common.{◌≡◌, ℕ, true, false, inl, inr, List, refl, sym, ap, ◌∙◌, arith}
+use Rattle.std.proofs.Common.{◌≡◌, ℕ, inl, inr, List, refl, sym, ap, ◌∙◌, arith}
 use Rattle.std.specs.Prelude.{Result, Ok, Err}
 use Rattle.std.specs.Str.{IsUtf8, chars}
 use Rattle.std.specs.Str.Lossy.{utf8_valid_len}
@@ -10,7 +10,7 @@ use Rattle.mdg_text.specs.declared.token.TextFault.{TextFault}
 use Rattle.mdg_text.specs.declared.token.TextFault.TheVariants.{NoMemory, NotUtf8, BadToken, TooManyTokens}
 use Rattle.mdg_text.specs.Causes.{HasCauseIn, HasCause, HasOneAnswer, HasSomeAnswer}
 use Rattle.mdg_text.specs.Lexer.{Stop, bad, full, lex_text, Answers}
-use Rattle.mdg_text.proofs.Steps.{decided, contradict}
+use Rattle.mdg_base.proofs.Decisions.{decided, contradict}
 use Rattle.mdg_text.proofs.TextLemmas.{text_reads, text_stuck, text_full, cause_of, cause_of_bytes}
 
 abbrev Refused : Result (List Token) TextFault → Type 0

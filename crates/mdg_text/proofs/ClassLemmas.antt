@@ -8,12 +8,13 @@ use Rattle.std.proofs.lemmas.List.Sums.{AllPass-from_list_all}
 use Rattle.unicode_ident.proofs.IdentLemmas.{is_xid_start-ascii}
 use Rattle.mdg_text.specs.Characters.{within, starts, is_digit, is_start, is_quote}
 use Rattle.mdg_text.specs.Punctuator.{punctuators}
-use Rattle.mdg_text.specs.Characters.{Each, OneOrMore}
+use Rattle.mdg_text.specs.Characters.{OneOrMore}
 use Rattle.mdg_text.specs.Number.{IsInteger, IsMantissa, IsNumericLiteral, scaled}
 use Rattle.mdg_text.specs.Lexeme.{IsIdentifier}
 use Rattle.mdg_text.specs.Number as spec
 use Rattle.mdg_text.specs.Scanner.{is_in}
-use Rattle.mdg_text.proofs.Steps.{both_true, either_true, not_true, decided, is_in-true, contradict}
+use Rattle.mdg_base.proofs.Decisions.{both_true, either_true, not_true, decided, contradict}
+use Rattle.mdg_text.proofs.ScannerLemmas.{is_in-true}
 
 abbrev ascii_start : ℕ → Bool
 ascii_start c = is_ascii_alphabetic c || ((c == 36) || (c == 95))

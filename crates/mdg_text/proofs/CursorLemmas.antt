@@ -8,7 +8,7 @@ use Rattle.std.proofs.lemmas.List.Sums.{sum_by_more, sum_by-append}
 use Rattle.mdg_text.specs.Characters.{starts, is_line_end}
 use Rattle.mdg_text.specs.Characters.{width, line_ends}
 use Rattle.mdg_text.specs.Cursor.{IsCursor, ends_line}
-use Rattle.mdg_text.proofs.Steps.{decided}
+use Rattle.mdg_base.proofs.Decisions.{decided}
 
 pub width_none : width [] ≡ 0
 unfolding width

@@ -13,7 +13,7 @@ use Rattle.mdg_text.specs.Lex.{IsFirst, LexesAfter, last, next, StuckAfter, here
 use Rattle.mdg_text.specs.Number as spec
 use Rattle.mdg_text.specs.Scanner.{Found, before as prefix_of, skip_trivia, token_at}
 use Rattle.mdg_text.specs.Lexer.{Stop, bad, full, reached, passed, token_of, decide, lex}
-use Rattle.mdg_text.proofs.Steps.{before_is}
+use Rattle.mdg_text.proofs.ScannerLemmas.{before_is}
 use Rattle.mdg_text.proofs.TriviaLemmas.{Gone, gone, skip_trivia-append, trivia_grows}
 use Rattle.mdg_text.proofs.TokenLemmas.{token_is, token_whole, no_token, token_spells, found, short_punctuators}
 use Rattle.mdg_text.proofs.StringLemmas.{string_body_cut}

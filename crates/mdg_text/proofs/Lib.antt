@@ -1,5 +1,4 @@
-pub mod Steps
-pub mod Turns
+pub mod ScannerLemmas
 pub mod TriviaLemmas
 pub mod NumberLemmas
 pub mod NameLemmas
@@ -15,3 +14,4 @@ pub mod UnitLemmas
 pub mod TableLemmas
 pub mod LexPlaceLemmas
 pub mod LineLemmas
+pub mod OrderLemmas

@@ -8,7 +8,7 @@ use Rattle.std.proofs.lemmas.List.{drop_more, drop_all}
 use Rattle.mdg_text.specs.Characters.{starts, is_line_end}
 use Rattle.mdg_text.specs.Characters.{line_ends}
 use Rattle.mdg_text.specs.Lines.{ends_line_at, byte_line_ends}
-use Rattle.mdg_text.proofs.Steps.{decided, both_true, either_true, contradict}
+use Rattle.mdg_base.proofs.Decisions.{decided, both_true, either_true, contradict}
 
 pub bytes_none : (bs : List ℕ) (i : ℕ) → length bs ≤ i → byte_line_ends (drop i bs) ≡ 0
 unfolding byte_line_ends

@@ -9,7 +9,8 @@ use Rattle.mdg_text.specs.Characters.{is_start, is_part}
 use Rattle.mdg_text.specs.Punctuator.{punctuators}
 use Rattle.mdg_text.specs.Lexeme.{IsIdentifier}
 use Rattle.mdg_text.specs.Scanner.{skip, before, is_in, Found, found_name, found_punctuator, kind_of, name_at, punctuator_of}
-use Rattle.mdg_text.proofs.Steps.{some_is, chosen, guard_of, both_true, decided, skipped, skip_most, before_is, is_in-true, is_in-contains, contradict}
+use Rattle.mdg_base.proofs.Decisions.{some_is, chosen, guard_of, both_true, decided, contradict}
+use Rattle.mdg_text.proofs.ScannerLemmas.{skipped, skip_most, before_is, is_in-true, is_in-contains}
 
 -- a prefix that is cut off and passes
 pub record Cut (P : List ℕ → Type 0) (text rest : List ℕ) : Type 0 where

@@ -10,7 +10,8 @@ use Rattle.mdg_text.specs.Characters.{Each, OneOrMore}
 use Rattle.mdg_text.specs.Number.{IsInteger, IsMantissa, IsExponent, unsigned, signed, IsNumericLiteral, scaled, MayFollow}
 use Rattle.mdg_text.specs.Number as spec
 use Rattle.mdg_text.specs.Scanner.{◌>>=◌, skip, integer, may_follow, checked, power, signed_power, exponent, fraction, hexadecimal, decimal, number}
-use Rattle.mdg_text.proofs.Steps.{some_is, bind_ok, chosen, guard_of, both_true, either_true, not_true, decided, skip-append, skipped, contradict, either_right}
+use Rattle.mdg_base.proofs.Decisions.{some_is, chosen, guard_of, both_true, either_true, not_true, decided, contradict, either_right}
+use Rattle.mdg_text.proofs.ScannerLemmas.{bind_ok, skip-append, skipped}
 
 -- the rule for what follows
 pub follows : (plain : Bool) (rest : List ℕ) → MayFollow plain rest → may_follow plain rest ≡ true

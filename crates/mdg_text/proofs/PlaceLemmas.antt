@@ -9,7 +9,7 @@ use Rattle.std.specs.Str.{encode_utf8_all}
 use Rattle.std.proofs.lemmas.Bool.{le-leb, lt-leb}
 use Rattle.mdg_text.specs.declared.token.TokenKind.TheVariants as variant
 use Rattle.mdg_text.specs.Punctuator.{punctuators}
-use Rattle.mdg_text.proofs.Steps.{decided}
+use Rattle.mdg_base.proofs.Decisions.{decided}
 
 -- the first character, and none
 pub ruleset first_character = (drop_more, drop_all)

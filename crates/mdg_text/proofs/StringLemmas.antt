@@ -8,7 +8,8 @@ use Rattle.mdg_text.specs.StringLiteral.{two_digits, four_digits, paired, escape
 use Rattle.mdg_text.specs.StringLiteral as spec
 use Rattle.mdg_text.specs.Scanner as r
 use Rattle.mdg_text.specs.Scanner.{◌>>=◌, Part, part, Unit16, unit16, Found, hex4, second_hex4, low_hex4, unicode_escape, hex_escape, after_line_end, null_escape, string_character, string_body, string_at}
-use Rattle.mdg_text.proofs.Steps.{some_is, bind_ok, chosen, guard_of, both_true, either_true, not_true, decided, contradict}
+use Rattle.mdg_base.proofs.Decisions.{some_is, chosen, guard_of, both_true, either_true, not_true, decided, contradict}
+use Rattle.mdg_text.proofs.ScannerLemmas.{bind_ok}
 
 -- units of UTF-16, and characters by their number
 hex4_reads : (text rest : List ℕ) (u : ℕ) → IsHex4 text u rest → hex4 text ≡ Some (unit16 u rest)

@@ -5,7 +5,8 @@ use Rattle.std.proofs.lemmas.List.Elements.{All-contains}
 use Rattle.std.proofs.lemmas.List.Sums.{AllPass-from_list_all}
 use Rattle.mdg_text.specs.Punctuator.{one_character, two_characters, three_characters, four_characters, punctuators}
 use Rattle.mdg_text.specs.Scanner.{same_text, is_in}
-use Rattle.mdg_text.proofs.Steps.{decided, is_in-true, is_in-contains, contradict}
+use Rattle.mdg_base.proofs.Decisions.{decided, contradict}
+use Rattle.mdg_text.proofs.ScannerLemmas.{is_in-true, is_in-contains}
 
 pub listed : (table : List (List ℕ)) (b : Bool) (x : List ℕ) → (IsTrue b ↔ Contains table x) → is_in table x ≡ b
 listed table true x h = is_in-contains table x (h.0 refl)

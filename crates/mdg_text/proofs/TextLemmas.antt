@@ -18,8 +18,9 @@ use Rattle.mdg_text.specs.Lex.{IsFirst, LexesAfter, last, next, HasAfter, Lexes,
 use Rattle.mdg_text.specs.Scanner.{before as prefix, after_script}
 use Rattle.mdg_text.specs.Lexer.{Stop, bad, full, lex, lex_text}
 use Rattle.mdg_text.specs.Lexer.{Answers}
-use Rattle.mdg_text.specs.Causes.{HasCauseIn, HasCause, HasLines, IsUnlessMemory, AnswersList, AnswersStuck, AnswersMany, HasOneList, IsNeverBoth, HasOneStop}
-use Rattle.mdg_text.proofs.Steps.{before_is}
+use Rattle.mdg_base.specs.Memory.{IsUnlessMemory}
+use Rattle.mdg_text.specs.Causes.{HasCauseIn, HasCause, HasLines, AnswersList, AnswersStuck, AnswersMany, HasOneList, IsNeverBoth, HasOneStop}
+use Rattle.mdg_text.proofs.ScannerLemmas.{before_is}
 use Rattle.mdg_text.proofs.TriviaLemmas.{HasScript, has_script, after_script-append}
 use Rattle.mdg_text.proofs.LexLemmas.{Tells, tells, lex_reads, lex_stuck, lex_full}
 
@@ -98,21 +99,21 @@ same_bad a b w p q = cc
 not_full : (a : ℕ) (w : Result (List Token) Stop) → w ≡ Err (bad a) → w ≡ Err full → ⊥
 not_full a w p q = cc
 
-pub answered_ok : (over : ℕ) (ts : List Token) (w : Result (List Token) Stop) (r : Result (List Token) TextFault) → w ≡ Ok ts → Answers over w r → IsUnlessMemory r (Ok ts)
+pub answered_ok : (over : ℕ) (ts : List Token) (w : Result (List Token) Stop) (r : Result (List Token) TextFault) → w ≡ Ok ts → Answers over w r → IsUnlessMemory NoMemory r (Ok ts)
 answered_ok over ts w (Ok v) e a = inl (ap Ok (same_ok ts v w e a))
 answered_ok over ts w (Err NoMemory) e a = inr refl
 answered_ok over ts w (Err (NotUtf8 o)) e a = absurd a
 answered_ok over ts w (Err (BadToken o)) e a = absurd (no_err ts (bad o) w e a)
 answered_ok over ts w (Err (TooManyTokens n)) e a = absurd (no_err ts full w e a.0)
 
-pub answered_bad : (over offset : ℕ) (w : Result (List Token) Stop) (r : Result (List Token) TextFault) → w ≡ Err (bad offset) → Answers over w r → IsUnlessMemory r (Err (BadToken offset))
+pub answered_bad : (over offset : ℕ) (w : Result (List Token) Stop) (r : Result (List Token) TextFault) → w ≡ Err (bad offset) → Answers over w r → IsUnlessMemory NoMemory r (Err (BadToken offset))
 answered_bad over offset w (Ok v) e a = absurd (no_err v (bad offset) w a e)
 answered_bad over offset w (Err NoMemory) e a = inr refl
 answered_bad over offset w (Err (NotUtf8 o)) e a = absurd a
 answered_bad over offset w (Err (BadToken o)) e a = inl (ap (λ (x : ℕ). Err (BadToken x)) (same_bad offset o w e a))
 answered_bad over offset w (Err (TooManyTokens n)) e a = absurd (not_full offset w e a.0)
 
-pub answered_full : (over : ℕ) (w : Result (List Token) Stop) (r : Result (List Token) TextFault) → w ≡ Err full → Answers over w r → IsUnlessMemory r (Err (TooManyTokens over))
+pub answered_full : (over : ℕ) (w : Result (List Token) Stop) (r : Result (List Token) TextFault) → w ≡ Err full → Answers over w r → IsUnlessMemory NoMemory r (Err (TooManyTokens over))
 answered_full over w (Ok v) e a = absurd (no_err v full w a e)
 answered_full over w (Err NoMemory) e a = inr refl
 answered_full over w (Err (NotUtf8 o)) e a = absurd a

@@ -16,7 +16,8 @@ use Rattle.mdg_text.specs.Lexeme.{IsIdentifier, Spells, name, reserved_word, num
 use Rattle.mdg_text.specs.Scanner as r
 use Rattle.mdg_text.specs.Scanner.{Found, Part, before, is_in, kind_of, name_at, number_at, string_at, punctuator_of, longer, longest_at, begins_html_comment, token_at, ◌>>=◌}
 use Rattle.mdg_text.proofs.ClassLemmas.{class_of, name_class, number_class, quote_class, punctuator_class}
-use Rattle.mdg_text.proofs.Steps.{some_is, bind_ok, unguarded, both_true, decided, before_is, is_in-true, is_in-contains, contradict}
+use Rattle.mdg_base.proofs.Decisions.{some_is, unguarded, both_true, decided, contradict}
+use Rattle.mdg_text.proofs.ScannerLemmas.{bind_ok, before_is, is_in-true, is_in-contains}
 use Rattle.mdg_text.proofs.NumberLemmas.{number-append, number_is}
 use Rattle.mdg_text.proofs.NameLemmas.{name_sound, name_most, punctuator_sound, punctuator_goes}
 use Rattle.mdg_text.proofs.StringLemmas.{string_reads, string_is, string_body_cut, string_body_reads}

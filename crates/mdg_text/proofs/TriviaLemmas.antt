@@ -5,7 +5,8 @@ use Rattle.mdg_text.specs.Characters.{starts, is_space, is_line_end}
 use Rattle.mdg_text.specs.Characters.{in_line}
 use Rattle.mdg_text.specs.Trivia.{IsTriviaElement, space, line_end, to_line_end, to_close, IsTrivia, none, more, BeginsTrivia, starts_script, IsScriptLine, absent, present}
 use Rattle.mdg_text.specs.Scanner.{skip, after_close, after_script, comment, skip_one, skip_trivia, or_else}
-use Rattle.mdg_text.proofs.Steps.{some_is, chosen, guard_of, both_true, either_true, decided, skip-append, skipped, skip_stops}
+use Rattle.mdg_base.proofs.Decisions.{some_is, chosen, guard_of, both_true, either_true, decided}
+use Rattle.mdg_text.proofs.ScannerLemmas.{skip-append, skipped, skip_stops}
 
 -- no end of a comment stands before that at the end of the body
 abbrev IsFirstClose : List ℕ → Type 0

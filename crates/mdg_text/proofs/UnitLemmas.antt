@@ -7,7 +7,7 @@ use Rattle.std.proofs.lemmas.List.{drop_more}
 use Rattle.mdg_text.specs.Characters.{within, is_hex_digit, is_high, is_low}
 use Rattle.mdg_text.specs.StringLiteral.{two_digits, four_digits}
 use Rattle.mdg_text.specs.Scanner.{hex4, second_hex4, unit16, hex_escape, part, begins_html_comment}
-use Rattle.mdg_text.proofs.Steps.{decided}
+use Rattle.mdg_base.proofs.Decisions.{decided}
 
 two_at : (text : List ℕ) (i : ℕ) → i + 1 < length text → drop i text ≡ get_or text i 0 ∷ get_or text (i + 1) 0 ∷ drop (i + 2) text
 two_at text i h = drop_more text i 0 (omega arith) ∙ ap (λ (l : List ℕ). get_or text i 0 ∷ l) (drop_more text (i + 1) 0 h ∙ ap (λ (j : ℕ). get_or text (i + 1) 0 ∷ drop j text) (omega arith))

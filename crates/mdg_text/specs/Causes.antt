@@ -1,5 +1,5 @@
 -- What each answer says of the bytes.
-use Rattle.std.specs.Prelude.{ℕ, ◌≡◌, ◌≤◌, ◌+◌, List, length, Result, Ok, Err, IfOk, All, ◌⊎◌}
+use Rattle.std.specs.Prelude.{ℕ, ◌≡◌, ◌≤◌, ◌+◌, List, length, Result, Ok, Err, IfOk, All}
 use Rattle.std.specs.Str.{IsUtf8, chars}
 use Rattle.std.specs.Str.Lossy.{utf8_valid_len}
 use Rattle.mdg_text.specs.declared.token.Token.{Token}
@@ -7,6 +7,7 @@ use Rattle.mdg_text.specs.declared.token.TextFault.{TextFault}
 use Rattle.mdg_text.specs.declared.token.TextFault.TheVariants.{NoMemory, NotUtf8, BadToken, TooManyTokens}
 use Rattle.mdg_text.specs.Lex.{Lexes, Stuck, Has}
 use Rattle.mdg_text.specs.Lines.{line_at}
+use Rattle.mdg_base.specs.Memory.{IsUnlessMemory}
 
 -- the most tokens of a file
 abbrev pub token_limit : ℕ
@@ -28,21 +29,17 @@ HasCause bytes (Err (NotUtf8 offset)) = ¬ (IsUtf8 bytes) × (offset ≡ utf8_va
 HasCause bytes (Err (BadToken offset)) = IsUtf8 bytes × HasCauseIn (chars bytes) (Err (BadToken offset))
 HasCause bytes (Err (TooManyTokens count)) = IsUtf8 bytes × HasCauseIn (chars bytes) (Err (TooManyTokens count))
 
--- this answer, unless memory is refused
-abbrev pub IsUnlessMemory : Result (List Token) TextFault → Result (List Token) TextFault → Type 0
-IsUnlessMemory result wanted = (result ≡ wanted) ⊎ (result ≡ Err NoMemory)
-
 -- a list of tokens is answered,
 abbrev pub AnswersList : List ℕ → Result (List Token) TextFault → Type 0
-AnswersList text result = (tokens : List Token) → Lexes text tokens → length tokens ≤ token_limit → IsUnlessMemory result (Ok tokens)
+AnswersList text result = (tokens : List Token) → Lexes text tokens → length tokens ≤ token_limit → IsUnlessMemory NoMemory result (Ok tokens)
 
 -- an offset at which no token begins is,
 abbrev pub AnswersStuck : List ℕ → Result (List Token) TextFault → Type 0
-AnswersStuck text result = (count offset : ℕ) → Stuck text count offset → count ≤ token_limit → IsUnlessMemory result (Err (BadToken offset))
+AnswersStuck text result = (count offset : ℕ) → Stuck text count offset → count ≤ token_limit → IsUnlessMemory NoMemory result (Err (BadToken offset))
 
 -- and so is a token that is too many
 abbrev pub AnswersMany : List ℕ → Result (List Token) TextFault → Type 0
-AnswersMany text result = Has text (token_limit + 1) → IsUnlessMemory result (Err (TooManyTokens (token_limit + 1)))
+AnswersMany text result = Has text (token_limit + 1) → IsUnlessMemory NoMemory result (Err (TooManyTokens (token_limit + 1)))
 
 -- a text has at most one list of tokens
 abbrev pub HasOneList : Type 0

@@ -12,3 +12,4 @@ pub mod Scanner
 pub mod Lexer
 pub mod Places
 pub mod Cursor
+pub mod TokenOrder

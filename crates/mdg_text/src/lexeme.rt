@@ -32,7 +32,7 @@ fn text_of(alloc: Global, characters: &[char]) -> Result<Text, NoMemory>
     ensures { IfOk result (λ t. t ≡ encode_utf8_all characters.now) }
 {
     let text: String = characters.iter().copied().collect(alloc)?;
-    Text::of(alloc, text.as_str())
+    Ok(Text::from_string(text))
 }
 
 /// The text between two places.

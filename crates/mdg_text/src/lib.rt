@@ -11,12 +11,10 @@ mod number;
 mod punctuator;
 mod reserved_word;
 mod string_literal;
-#[cfg(test)]
-mod tests;
 mod token;
 mod trivia;
 
-pub use laws::{law_answers, law_tokens};
+pub use laws::{law_answers, law_order, law_tokens};
 pub use lex::tokens;
 pub use lines::line_of;
 pub use token::{TextFault, Token, TokenKind};

@@ -2,7 +2,7 @@ use Rattle.std.proofs.Common.{rules, arith, ◌<◌, length, drop}
 use Rattle.std.proofs.lemmas.Grind.{common_steps}
 use Rattle.std.proofs.lemmas.List.{drop_more, drop_all}
 use Rattle.mdg_text.specs.Scanner.{string_body}
-use Rattle.mdg_text.proofs.Turns.{one_more}
+use Rattle.mdg_base.proofs.Counts.{one_more}
 use Rattle.mdg_text.proofs.string_literal.string_body.Goals as goal
 
 pub returns-then-i-text-clause-reads : goal.returns-then-i-text-clause-reads

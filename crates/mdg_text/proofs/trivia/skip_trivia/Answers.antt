@@ -1,7 +1,7 @@
 use Rattle.std.proofs.Common.{rules, arith, drop}
 use Rattle.std.proofs.lemmas.Grind.{common_steps}
 use Rattle.mdg_text.specs.Scanner.{skip_trivia}
-use Rattle.mdg_text.proofs.Turns.{one_more, no_more}
+use Rattle.mdg_base.proofs.Counts.{one_more, no_more}
 use Rattle.mdg_text.proofs.trivia.skip_trivia.Goals as goal
 
 pub returns-in_default-clause-rest : goal.returns-in_default-clause-rest

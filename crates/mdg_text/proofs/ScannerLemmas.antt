@@ -1,49 +1,15 @@
--- Steps through the scanner's tests, and cuts of lists.
-use Rattle.std.proofs.Common.{◌≡◌, ℕ, zero, suc, ◌≤◌, ◌<◌, Bool, true, false, cond, not, ◌&&◌, ◌||◌, ◌==◌, ◌⊎◌, inl, inr, List, [], ◌∷◌, ◌++◌, length, arith, refl, ap, ◌∙◌, eqb-true, length-append, Contains, slice_index_or, eq-eqb}
+-- What the scanner's tests tell, and how it cuts lists.
+use Rattle.std.proofs.Common.{◌≡◌, ℕ, zero, suc, ◌≤◌, ◌<◌, Bool, true, false, ◌==◌, inl, inr, List, [], ◌∷◌, ◌++◌, length, arith, refl, ap, ◌∙◌, eqb-true, length-append, Contains, slice_index_or, eq-eqb}
 use Rattle.std.specs.Prelude.{Option, Some, None}
 use Rattle.std.proofs.lemmas.List.{take_at}
 use Rattle.mdg_text.specs.Characters.{starts}
 use Rattle.mdg_text.specs.Characters.{Each}
 use Rattle.mdg_text.specs.Scanner.{◌>>=◌, skip, before, same_text, is_in}
-
-pub some_is : {T : Type 0} (a b : T) → Some a ≡ Some b → a ≡ b
-some_is a b e = cc
+use Rattle.mdg_base.proofs.Decisions.{both_true, either_true, decided}
 
 pub bind_ok : {A B : Type 0} (o : Option A) (f : A → Option B) (y : B) → (o >>= f) ≡ Some y → (x : A) × (o ≡ Some x) × (f x ≡ Some y)
 bind_ok None f y e = absurd cc
 bind_ok (Some x) f y e = (x, refl, e)
-
-pub chosen : {A : Type 0} (b : Bool) (x y z : A) → cond b x y ≡ z → ((b ≡ true) × (x ≡ z)) ⊎ ((b ≡ false) × (y ≡ z))
-chosen true x y z e = inl (refl, e)
-chosen false x y z e = inr (refl, e)
-
-pub guard_of : {A : Type 0} (b : Bool) (x : Option A) (y : A) → cond b x None ≡ Some y → (b ≡ true) × (x ≡ Some y)
-guard_of true x y e = (refl, e)
-guard_of false x y e = absurd cc
-
-pub unguarded : {A : Type 0} (b : Bool) (x : Option A) (y : A) → cond b None x ≡ Some y → (b ≡ false) × (x ≡ Some y)
-unguarded true x y e = absurd cc
-unguarded false x y e = (refl, e)
-
-pub both_true : (a b : Bool) → (a && b) ≡ true → (a ≡ true) × (b ≡ true)
-both_true true b e = (refl, e)
-both_true false b e = absurd cc
-
-pub either_true : (a b : Bool) → (a || b) ≡ true → (a ≡ true) ⊎ (b ≡ true)
-either_true true b e = inl refl
-either_true false b e = inr e
-
-pub neither : (a b : Bool) → (a || b) ≡ false → (a ≡ false) × (b ≡ false)
-neither true b e = absurd cc
-neither false b e = (refl, e)
-
-pub not_true : (a : Bool) → not a ≡ true → a ≡ false
-not_true true e = absurd cc
-not_true false e = refl
-
-pub decided : (b : Bool) → (b ≡ true) ⊎ (b ≡ false)
-decided true = inl refl
-decided false = inr refl
 
 -- what is skipped is gone, where the rest does not go on
 pub skip-append : (p : ℕ → Bool) (a x : List ℕ) → Each p a → starts p x ≡ false → skip p (a ++ x) ≡ x
@@ -110,16 +76,9 @@ in_at (y ∷ ys) x (suc i) h e = elim (decided (same_text y x)) [ inl on ↦ rw 
 pub is_in-contains : (ys : List (List ℕ)) (x : List ℕ) → Contains ys x → is_in ys x ≡ true
 is_in-contains ys x c = in_at ys x c.0 c.1 c.2
 
-pub contradict : {b : Bool} → b ≡ true → b ≡ false → ⊥
-contradict p q = cc
-
 -- what is skipped is at least what passes
 pub skip_most : (p : ℕ → Bool) (a x : List ℕ) → Each p a → length (skip p (a ++ x)) ≤ length x
 unfolding skip
 skip_most p [] [] e = omega arith
 skip_most p [] (c ∷ cs) e = let s = skipped p (c ∷ cs) in omega (arith, ap length s.cut, length-append s.prefix (skip p (c ∷ cs)))
 skip_most p (d ∷ ds) x e = rw e.0 (skip_most p ds x e.1)
-
-pub either_right : (a b : Bool) → b ≡ true → (a || b) ≡ true
-either_right true b e = refl
-either_right false b e = e
