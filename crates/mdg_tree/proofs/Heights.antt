@@ -12,7 +12,7 @@ use Rattle.mdg_tree.specs.declared.tree.Expr.TheVariants as e
 use Rattle.mdg_tree.specs.declared.tree.Stmt.TheVariants as s
 use Rattle.mdg_tree.specs.declared.tree.Init.TheVariants as i
 use Rattle.mdg_tree.specs.declared.tree.Goal.TheVariants as g
-use Rattle.mdg_tree.specs.declared.tree.Expr.TheOpen.{Expr-F, Goal-F, Init-F, Stmt-F, Declaration-F, Function-F, Property-F}
+use Rattle.mdg_tree.specs.declared.tree.Expr.TheOpen.{Expr-F, Goal-F, Init-F, Stmt-F}
 use Rattle.mdg_tree.specs.declared.tree.Expr.TheFolds.{fold-roll-Expr, fold-roll-Stmt, fold-roll-Init, fold-roll-Goal, fold_out-Property, fold_out-Function, fold_out-Declaration}
 use Rattle.mdg_tree.specs.Height.{highest, optional, head_height, expr_step, goal_step, init_step, stmt_step, declaration_step, function_step, property_step, height, goal_height, init_height, stmt_height, declaration_height, function_height, property_height}
 

@@ -3,7 +3,7 @@ use Rattle.std.specs.Prelude.{ℕ, List, Option, Some, None}
 use Rattle.mdg_tree.specs.declared.tree.Expr.{Expr}
 use Rattle.mdg_tree.specs.declared.tree.Key.{Key}
 use Rattle.mdg_tree.specs.declared.tree.Key.TheVariants as k
-use Rattle.mdg_tree.specs.declared.tree.Expr.TheOpen.{Expr-F, Goal-F, Init-F, Stmt-F, Declaration-F, Function-F, Property-F}
+use Rattle.mdg_tree.specs.declared.tree.Expr.TheOpen.{Expr-F}
 use Rattle.mdg_tree.specs.declared.tree.Expr.TheFolds.{fold-Expr}
 
 -- the name of a property: the value of a text, a numeral as it is spelled

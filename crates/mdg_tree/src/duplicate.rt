@@ -3,7 +3,7 @@
 ghost use Rattle.std.specs.Prelude.{◌≡◌, IfOk};
 
 use crate::tree::{Declaration, Expr, FileTree, Function, Goal, Init, Key, Property, Stmt};
-use mdg_base::{NoMemory, Text};
+use mdg_base::{NoMemory, copy_numbers, copy_optional, copy_texts};
 use sqlite_items::{Boxed, Items};
 use std::alloc::Global;
 
@@ -18,45 +18,13 @@ pub fn copy(alloc: Global, tree: &FileTree) -> Result<FileTree, NoMemory>
     Ok(FileTree { at: tree.at, items })
 }
 
-fn copy_text(alloc: Global, text: &Text) -> Result<Text, NoMemory>
-    ensures { IfOk result (λ t. t ≡ text.now) }
-{
-    Text::of(alloc, text.as_str())
-}
-
-fn copy_texts(alloc: Global, all: &[Text]) -> Result<mdg_base::Items<Text>, NoMemory>
-    ensures { IfOk result (λ t. t ≡ all.now) }
-{
-    let mut made = mdg_base::Items::create(alloc);
-    for one in all {
-        made.push(copy_text(alloc, one)?)?;
-    }
-    Ok(made)
-}
-
-fn copy_numbers(alloc: Global, all: &[u32]) -> Result<mdg_base::Items<u32>, NoMemory>
-    ensures { IfOk result (λ t. t ≡ all.now) }
-{
-    let copied = Vec::from_slice(alloc, all)?;
-    Ok(mdg_base::Items::from_vec(copied))
-}
-
-fn copy_name(alloc: Global, name: &Option<Text>) -> Result<Option<Text>, NoMemory>
-    ensures { IfOk result (λ t. t ≡ name.now) }
-{
-    match name {
-        Some(text) => Ok(Some(copy_text(alloc, text)?)),
-        None => Ok(None),
-    }
-}
-
 fn copy_key(alloc: Global, key: &Key) -> Result<Key, NoMemory>
     ensures { IfOk result (λ t. t ≡ key.now) }
 {
     match key {
-        Key::Name(text) => Ok(Key::Name(copy_text(alloc, text)?)),
-        Key::Text(text) => Ok(Key::Text(copy_text(alloc, text)?)),
-        Key::Numeral(text) => Ok(Key::Numeral(copy_text(alloc, text)?)),
+        Key::Name(text) => Ok(Key::Name(text.copy(alloc)?)),
+        Key::Text(text) => Ok(Key::Text(text.copy(alloc)?)),
+        Key::Numeral(text) => Ok(Key::Numeral(text.copy(alloc)?)),
     }
 }
 
@@ -97,17 +65,17 @@ fn copy_expr(alloc: Global, tree: &Expr) -> Result<Expr, NoMemory>
             Expr::Index(*at, boxed(alloc, a.get())?, boxed(alloc, key.get())?)
         }
         Expr::Member(at, a, name) => {
-            Expr::Member(*at, boxed(alloc, a.get())?, copy_text(alloc, name)?)
+            Expr::Member(*at, boxed(alloc, a.get())?, name.copy(alloc)?)
         }
         Expr::FunctionExpression(function) => {
             Expr::FunctionExpression(copy_function(alloc, function)?)
         }
-        Expr::Name(at, name) => Expr::Name(*at, copy_text(alloc, name)?),
+        Expr::Name(at, name) => Expr::Name(*at, name.copy(alloc)?),
         Expr::Null(at) => Expr::Null(*at),
         Expr::True(at) => Expr::True(*at),
         Expr::False(at) => Expr::False(*at),
-        Expr::Numeral(at, text) => Expr::Numeral(*at, copy_text(alloc, text)?),
-        Expr::Text(at, text) => Expr::Text(*at, copy_text(alloc, text)?),
+        Expr::Numeral(at, text) => Expr::Numeral(*at, text.copy(alloc)?),
+        Expr::Text(at, text) => Expr::Text(*at, text.copy(alloc)?),
         Expr::Paren(at, a) => Expr::Paren(*at, boxed(alloc, a.get())?),
         Expr::Array(at, all) => Expr::Array(*at, copy_all(alloc, all.as_slice())?),
         Expr::Object(at, all) => Expr::Object(*at, copy_properties(alloc, all.as_slice())?),
@@ -154,7 +122,7 @@ fn copy_properties(alloc: Global, all: &[Property]) -> Result<Items<Property>, N
 fn copy_function(alloc: Global, function: &Function) -> Result<Function, NoMemory>
     ensures { IfOk result (λ t. t ≡ function.now) }
 {
-    let name = copy_name(alloc, &function.name)?;
+    let name = copy_optional(alloc, &function.name)?;
     let parameters = copy_texts(alloc, function.parameters.as_slice())?;
     let parameter_offsets = copy_numbers(alloc, function.parameter_offsets.as_slice())?;
     let body = copy_body(alloc, function.body.as_slice())?;
@@ -170,7 +138,7 @@ fn copy_function(alloc: Global, function: &Function) -> Result<Function, NoMemor
 }
 
 #[cycle(copy)]
-fn copy_optional(alloc: Global, tree: &Option<Expr>) -> Result<Option<Expr>, NoMemory>
+fn copy_part(alloc: Global, tree: &Option<Expr>) -> Result<Option<Expr>, NoMemory>
     ensures { IfOk result (λ t. t ≡ tree.now) }
 {
     match tree {
@@ -207,8 +175,8 @@ fn copy_stmt(alloc: Global, tree: &Stmt) -> Result<Stmt, NoMemory>
         Stmt::For(at, init, test, update, body) => Stmt::For(
             *at,
             copy_init(alloc, init)?,
-            copy_optional(alloc, test)?,
-            copy_optional(alloc, update)?,
+            copy_part(alloc, test)?,
+            copy_part(alloc, update)?,
             boxed_stmt(alloc, body.get())?,
         ),
         Stmt::ForIn(at, goal, object, body) => Stmt::ForIn(
@@ -266,7 +234,7 @@ fn copy_goal(alloc: Global, goal: &Goal) -> Result<Goal, NoMemory>
 {
     match goal {
         Goal::Variable(at, name_at, name) => {
-            Ok(Goal::Variable(*at, *name_at, copy_text(alloc, name)?))
+            Ok(Goal::Variable(*at, *name_at, name.copy(alloc)?))
         }
         Goal::Target(value) => Ok(Goal::Target(copy_expr(alloc, value)?)),
     }
@@ -278,8 +246,8 @@ fn copy_declarations(alloc: Global, all: &[Declaration]) -> Result<Items<Declara
 {
     let mut made = Items::new(alloc);
     for one in all {
-        let name = copy_text(alloc, &one.name)?;
-        let value = copy_optional(alloc, &one.value)?;
+        let name = one.name.copy(alloc)?;
+        let value = copy_part(alloc, &one.value)?;
         made.push(Declaration {
             at: one.at,
             name,
