@@ -2,6 +2,7 @@
 use Rattle.std.specs.Prelude.{ℕ, ◌≡◌, ◌<◌, ◌⊎◌, true, List, [], ◌∷◌, codes, length, Some, option_and_then, Result, Ok, Err, slice_get}
 use Rattle.std.specs.List.{AllZip}
 use Rattle.std.specs.Str.{IsUtf8}
+use Rattle.mdg_base.specs.Memory.{IsUnlessMemory}
 use Rattle.mdg_profile.specs.declared.entry.Entry.{Entry}
 use Rattle.mdg_profile.specs.declared.entry.Profile.{Profile}
 use Rattle.mdg_profile.specs.declared.refusal.ProfileRefusal.{ProfileRefusal}
@@ -70,17 +71,13 @@ IsAnswer bytes (Err (BadMember index)) = (items : List Data) × Lists bytes item
 IsAnswer bytes (Err (RepeatedName index)) = (items : List Data) × Lists bytes items × RepeatsAt items index × IsFirst items index
 IsAnswer bytes (Err NoMemory) = ⊥
 
--- it is the answer, unless memory is refused
-abbrev pub IsUnlessMemory : Result Profile ProfileRefusal → Result Profile ProfileRefusal → Type 0
-IsUnlessMemory result answer = (result ≡ answer) ⊎ (result ≡ Err NoMemory)
-
 -- what an answer shows
 abbrev pub HasCause : List ℕ → Result Profile ProfileRefusal → Type 0
 HasCause bytes result = IsAnswer bytes result ⊎ (result ≡ Err NoMemory)
 
 -- what is so is answered
 abbrev pub Answers : List ℕ → Result Profile ProfileRefusal → Type 0
-Answers bytes result = (answer : Result Profile ProfileRefusal) → IsAnswer bytes answer → IsUnlessMemory result answer
+Answers bytes result = (answer : Result Profile ProfileRefusal) → IsAnswer bytes answer → IsUnlessMemory NoMemory result answer
 
 -- bytes have at most one answer
 abbrev pub HasOneAnswer : Type 0
