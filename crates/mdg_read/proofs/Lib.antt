@@ -1,8 +1,11 @@
-pub mod Tools
-pub mod Signs
+pub mod Combinators
+pub mod BindingPower
+pub mod PropertyNames
 pub mod Progress
 pub mod Complete
 pub mod Sound
-pub mod Turns
-pub mod Looks
+pub mod Fuel
+pub mod LookaheadLemmas
 pub mod Files
+pub mod AnswerLemmas
+pub mod OffsetLemmas

@@ -1,17 +1,16 @@
 //! Declared variables (12.2).
 
 ghost use Rattle.std.specs.Prelude.{[], true, suc, max, Some, ◌≡◌, ◌≢◌, ◌+◌, ◌-◌, ◌<◌, ◌≤◌, length, IfOk, MatchResult};
-ghost use Rattle.mdg_read.specs.Tokens as tokens;
-ghost use Rattle.mdg_read.specs.Reading as reading;
-ghost use Rattle.mdg_read.specs.At as at_depth;
-ghost use Rattle.mdg_read.specs.At.{Gives, IsLow, Ready};
+ghost use Rattle.mdg_read.specs.Parser.{Gives, IsLow, Ready};
+ghost use Rattle.mdg_read.specs.AtDepth as at_depth;
 
-use crate::closing::closes;
-use crate::form::{Form, Read};
+use crate::parsed::Parsed;
+use crate::parser::Parser;
+use crate::production::Production;
 use crate::refusal::ReadError;
-use crate::rules::Rules;
-use crate::sign::Sign;
-use crate::test::{is_plain_assign, same, var_ending};
+use crate::semicolon::{insert_semicolon, var_terminator};
+use crate::terminal::Terminal;
+use crate::token_class::{is_plain_assign, same};
 use mdg_text::Token;
 use mdg_tree::{Declaration, Expr, Stmt};
 use sqlite_items::Items;
@@ -19,21 +18,21 @@ use std::alloc::Global;
 
 impl<
     'a,
-    F: Fn(Global, &[Token], &[Sign], u32, Form, usize) -> Result<Read<Expr>, ReadError>,
-    S: Fn(Global, &[Token], &[Sign], u32, bool, usize) -> Result<Read<Stmt>, ReadError>,
-> Rules<'a, F, S> {
-    #[tactic(auto, unfolding(crate::specs::Reading::declaring))]
-    fn declaring(&self, kept_out: bool, at: usize) -> Result<Read<Declaration>, ReadError>
-        requires ready { Ready self.now.tokens.now self.now.signs.now self.now.depth (F.pre self.now.expr) (F.post self.now.expr) (S.pre self.now.stmt) (S.post self.now.stmt) }
-        ensures reads { Gives (at_depth.declaring self.now.tokens.now self.now.depth kept_out at) result }
+    F: Fn(Global, &[Token], &[Terminal], u32, Production, usize) -> Result<Parsed<Expr>, ReadError>,
+    S: Fn(Global, &[Token], &[Terminal], u32, bool, usize) -> Result<Parsed<Stmt>, ReadError>,
+> Parser<'a, F, S> {
+    #[tactic(auto, unfolding(crate::specs::ReferenceStatements::declaration))]
+    fn declaration(&self, no_in: bool, at: usize) -> Result<Parsed<Declaration>, ReadError>
+        requires ready { Ready self.now.tokens.now self.now.terminals.now self.now.depth (F.pre self.now.expr) (F.post self.now.expr) (S.pre self.now.stmt) (S.post self.now.stmt) }
+        ensures reads { Gives (at_depth.declaration self.now.tokens.now self.now.depth no_in at) result }
         ensures low { IsLow self.now.depth result }
     {
-        let next = self.expect(Sign::Name, at)?;
+        let next = self.expect(Terminal::Name, at)?;
         let name = self.text(at)?;
-        let place = self.place(at);
-        let sign = self.sign(next);
-        if !is_plain_assign(sign) {
-            return Ok(Read {
+        let place = self.position(at);
+        let terminal = self.terminal(next);
+        if !is_plain_assign(terminal) {
+            return Ok(Parsed {
                 tree: Declaration {
                     at: place,
                     name,
@@ -43,8 +42,8 @@ impl<
                 next,
             });
         }
-        let value = self.expr(Form::Single(kept_out), self.after(next))?;
-        Ok(Read {
+        let value = self.expr(Production::Assignment(no_in), self.after(next))?;
+        Ok(Parsed {
             tree: Declaration {
                 at: place,
                 name,
@@ -56,24 +55,24 @@ impl<
     }
 
     /// One or more declarations with commas between.
-    pub fn declares(
+    pub fn declarations(
         &self,
-        kept_out: bool,
+        no_in: bool,
         mut at: usize,
-    ) -> Result<Read<Items<Declaration>>, ReadError>
-        requires ready { Ready self.now.tokens.now self.now.signs.now self.now.depth (F.pre self.now.expr) (F.post self.now.expr) (S.pre self.now.stmt) (S.post self.now.stmt) }
-        ensures reads { Gives (at_depth.declares self.now.tokens.now self.now.depth kept_out at) result }
+    ) -> Result<Parsed<Items<Declaration>>, ReadError>
+        requires ready { Ready self.now.tokens.now self.now.terminals.now self.now.depth (F.pre self.now.expr) (F.post self.now.expr) (S.pre self.now.stmt) (S.post self.now.stmt) }
+        ensures reads { Gives (at_depth.declarations self.now.tokens.now self.now.depth no_in at) result }
         ensures low { IsLow self.now.depth result }
     {
         let mut all = Items::new(self.alloc);
         let mut height = 0;
-        for _turn in 0..self.tokens.len() {
-            let one = self.declaring(kept_out, at)?;
+        for _iteration in 0..self.tokens.len() {
+            let one = self.declaration(no_in, at)?;
             all.push(one.tree)?;
             height = height.max(one.height);
-            let sign = self.sign(one.next);
-            if !same(sign, Sign::Comma) {
-                return Ok(Read {
+            let terminal = self.terminal(one.next);
+            if !same(terminal, Terminal::Comma) {
+                return Ok(Parsed {
                     tree: all,
                     height,
                     next: one.next,
@@ -84,18 +83,18 @@ impl<
         Err(ReadError::NoTree)
     }
 
-    #[tactic(auto, unfolding(crate::specs::Reading::var_statement))]
-    pub fn var_statement(&self, at: usize) -> Result<Read<Stmt>, ReadError>
-        requires ready { Ready self.now.tokens.now self.now.signs.now self.now.depth (F.pre self.now.expr) (F.post self.now.expr) (S.pre self.now.stmt) (S.post self.now.stmt) }
+    #[tactic(auto, unfolding(crate::specs::ReferenceStatements::var_statement))]
+    pub fn var_statement(&self, at: usize) -> Result<Parsed<Stmt>, ReadError>
+        requires ready { Ready self.now.tokens.now self.now.terminals.now self.now.depth (F.pre self.now.expr) (F.post self.now.expr) (S.pre self.now.stmt) (S.post self.now.stmt) }
         requires inside { at < length self.now.tokens.now }
         ensures reads { Gives (at_depth.var_statement self.now.tokens.now self.now.depth at) result }
         ensures low { IsLow (self.now.depth + 1) result }
     {
-        let all = self.declares(false, self.after(at))?;
-        let ending = var_ending(all.tree.as_slice());
-        let next = closes(self.tokens, self.signs, ending, all.next)?;
-        Ok(Read {
-            tree: Stmt::Var(self.place(at), all.tree),
+        let all = self.declarations(false, self.after(at))?;
+        let terminator = var_terminator(all.tree.as_slice());
+        let next = insert_semicolon(self.tokens, self.terminals, terminator, all.next)?;
+        Ok(Parsed {
+            tree: Stmt::Var(self.position(at), all.tree),
             height: all.height + 1,
             next,
         })

@@ -2,31 +2,31 @@
 
 ghost use Rattle.std.specs.Prelude.{◌≡◌, ◌≢◌, ◌<◌, ◌≤◌, ◌+◌, ◌-◌, ℕ, Some, length, map, slice_get};
 ghost use Rattle.mdg_tree.specs.declared.tree.FileTree.{FileTree as Tree};
-ghost use Rattle.mdg_read.specs.Tokens as seen;
+ghost use Rattle.mdg_read.specs.Excluded.{IsCore, IsFirstExcluded};
+ghost use Rattle.mdg_read.specs.Files.{Begins, HasCause, IsFile, ItemsCause, Reads, StartCause};
 ghost use Rattle.mdg_read.specs.Files as files;
-ghost use Rattle.mdg_read.specs.Files.{Begins, HasCause, IsCore, IsFile, IsFirstOutside, ItemsCause, Reads, StartCause};
+ghost use Rattle.mdg_read.specs.Terminal as table;
 
-use crate::closing::closes;
-use crate::form::Ending;
-use crate::look::place_at;
-use crate::outside::first_outside;
-use crate::read::read_stmt;
+use crate::excluded::first_excluded_word;
+use crate::lookahead::position_at;
+use crate::reader::read_stmt;
 use crate::refusal::{ReadError, ReadRefusal};
-use crate::sign::Sign;
-use crate::table::signs_of;
+use crate::semicolon::{Terminator, insert_semicolon};
+use crate::terminal::Terminal;
+use crate::terminals::terminals_of;
 use mdg_base::{Items, Text};
 use mdg_text::{Token, TokenKind};
 use mdg_tree::{FileTree, Stmt};
 use std::alloc::Global;
 
 /// The greatest height of an item of a file.
-const LIMIT: u32 = 255;
+const ITEM_HEIGHT_LIMIT: u32 = 255;
 
 /// The one tree, of height at most 256, that spells the tokens of a file: the directive
 /// `use strict` and its semicolon, and then items up to the end (14, 14.1).
 ///
 /// It refuses with `NotStrict` exactly where the tokens do not begin with the directive and its
-/// semicolon, else with `NotCore` exactly where a word that the core leaves out names no property,
+/// semicolon, else with `NotCore` exactly where an excluded word names no property,
 /// at the first such word, and else with `NoTree` exactly where no tree of the height allowed
 /// spells the tokens, at the first token at which an item is due and none begins. Offsets are in
 /// bytes. It also refuses where memory is refused.
@@ -34,27 +34,27 @@ pub fn read_file(alloc: Global, tokens: &[Token]) -> Result<FileTree, ReadRefusa
     ensures cause { HasCause tokens.now result }
     ensures only { IsCore tokens.now → (tree : Tree) → IsFile tokens.now tree → Reads result tree }
 {
-    let signs = signs_of(alloc, tokens)?;
-    let start = items_start(tokens, signs.as_slice())?;
-    if let Some(at) = first_outside(tokens, signs.as_slice()) {
-        return Err(left_out(alloc, tokens, at));
+    let terminals = terminals_of(alloc, tokens)?;
+    let start = items_start(tokens, terminals.as_slice())?;
+    if let Some(at) = first_excluded_word(tokens, terminals.as_slice()) {
+        return Err(excluded_word(alloc, tokens, at));
     }
-    let items = read_items(alloc, tokens, signs.as_slice(), start)?;
+    let items = read_items(alloc, tokens, terminals.as_slice(), start)?;
     Ok(FileTree {
-        at: place_at(tokens, 0),
+        at: position_at(tokens, 0),
         items,
     })
 }
 
 /// The place at which the items begin.
-fn items_start(tokens: &[Token], signs: &[Sign]) -> Result<usize, ReadRefusal>
-    requires { signs.now ≡ map seen.token_sign tokens.now }
+fn items_start(tokens: &[Token], terminals: &[Terminal]) -> Result<usize, ReadRefusal>
+    requires { terminals.now ≡ map table.token_terminal tokens.now }
     ensures { StartCause tokens.now result }
 {
     if !has_directive(tokens) {
         return Err(ReadRefusal::NotStrict);
     }
-    match closes(tokens, signs, Ending::Plain, 1) {
+    match insert_semicolon(tokens, terminals, Terminator::Plain, 1) {
         Ok(start) => Ok(start),
         Err(ReadError::NoTree) => Err(ReadRefusal::NotStrict),
         Err(ReadError::NoMemory) => Err(ReadRefusal::NoMemory),
@@ -87,9 +87,9 @@ fn is_text(kind: TokenKind) -> bool
     }
 }
 
-fn left_out(alloc: Global, tokens: &[Token], at: usize) -> ReadRefusal
+fn excluded_word(alloc: Global, tokens: &[Token], at: usize) -> ReadRefusal
     requires { at < length tokens.now }
-    ensures { files.LeavesOut tokens.now at result }
+    ensures { files.RefusesWord tokens.now at result }
 {
     let token = &tokens[at];
     match Text::of(alloc, token.text.as_str()) {
@@ -102,17 +102,17 @@ fn left_out(alloc: Global, tokens: &[Token], at: usize) -> ReadRefusal
 fn read_items(
     alloc: Global,
     tokens: &[Token],
-    signs: &[Sign],
+    terminals: &[Terminal],
     start: usize,
 ) -> Result<Items<Stmt>, ReadRefusal>
-    requires known { signs.now ≡ map seen.token_sign tokens.now }
+    requires known { terminals.now ≡ map table.token_terminal tokens.now }
     requires begins { Begins tokens.now start }
     ensures { ItemsCause tokens.now start result }
 {
     let mut items = Items::create(alloc);
     let mut at = start;
     while at < tokens.len() {
-        match read_stmt(alloc, tokens, signs, LIMIT, true, at) {
+        match read_stmt(alloc, tokens, terminals, ITEM_HEIGHT_LIMIT, true, at) {
             Ok(one) => {
                 items.push(one.tree)?;
                 at = one.next;

@@ -1,16 +1,17 @@
 //! Functions (13).
 
 ghost use Rattle.std.specs.Prelude.{[], true, suc, Some, ◌≡◌, ◌≢◌, ◌+◌, ◌-◌, ◌<◌, ◌≤◌, length, IfOk, MatchResult};
-ghost use Rattle.mdg_read.specs.Tokens as tokens;
-ghost use Rattle.mdg_read.specs.Reading as reading;
-ghost use Rattle.mdg_read.specs.At as at_depth;
-ghost use Rattle.mdg_read.specs.At.{Gives, IsLow, Ready};
+ghost use Rattle.mdg_read.specs.Parser.{Gives, IsLow, Ready};
+ghost use Rattle.mdg_read.specs.AtDepth as at_depth;
+ghost use Rattle.mdg_read.specs.Combinators as combinators;
+ghost use Rattle.mdg_read.specs.Tokens as seen;
 
-use crate::form::{Form, Parameters, Read};
+use crate::parsed::{Parameters, Parsed};
+use crate::parser::Parser;
+use crate::production::Production;
 use crate::refusal::ReadError;
-use crate::rules::Rules;
-use crate::sign::Sign;
-use crate::test::{ends_block, same};
+use crate::terminal::Terminal;
+use crate::token_class::{ends_block, same};
 use mdg_base::Text;
 use mdg_text::Token;
 use mdg_tree::{Expr, Function, Stmt};
@@ -19,21 +20,21 @@ use std::alloc::Global;
 
 impl<
     'a,
-    F: Fn(Global, &[Token], &[Sign], u32, Form, usize) -> Result<Read<Expr>, ReadError>,
-    S: Fn(Global, &[Token], &[Sign], u32, bool, usize) -> Result<Read<Stmt>, ReadError>,
-> Rules<'a, F, S> {
+    F: Fn(Global, &[Token], &[Terminal], u32, Production, usize) -> Result<Parsed<Expr>, ReadError>,
+    S: Fn(Global, &[Token], &[Terminal], u32, bool, usize) -> Result<Parsed<Stmt>, ReadError>,
+> Parser<'a, F, S> {
     /// Statements up to a brace or the end; where the flag is set, declared functions too.
-    pub fn items(&self, top: bool, mut at: usize) -> Result<Read<Items<Stmt>>, ReadError>
-        requires ready { Ready self.now.tokens.now self.now.signs.now self.now.depth (F.pre self.now.expr) (F.post self.now.expr) (S.pre self.now.stmt) (S.post self.now.stmt) }
+    pub fn items(&self, top: bool, mut at: usize) -> Result<Parsed<Items<Stmt>>, ReadError>
+        requires ready { Ready self.now.tokens.now self.now.terminals.now self.now.depth (F.pre self.now.expr) (F.post self.now.expr) (S.pre self.now.stmt) (S.post self.now.stmt) }
         ensures reads { Gives (at_depth.items self.now.tokens.now self.now.depth top at) result }
         ensures low { IsLow self.now.depth result }
     {
         let mut body = Items::new(self.alloc);
         let mut height = 0;
-        for _turn in 0..self.tokens.len() + 1 {
-            let sign = self.sign(at);
-            if ends_block(sign) {
-                return Ok(Read {
+        for _iteration in 0..self.tokens.len() + 1 {
+            let terminal = self.terminal(at);
+            if ends_block(terminal) {
+                return Ok(Parsed {
                     tree: body,
                     height,
                     next: at,
@@ -48,17 +49,17 @@ impl<
     }
 
     fn names_from(&self, mut at: usize) -> Result<Parameters, ReadError>
-        requires ready { Ready self.now.tokens.now self.now.signs.now self.now.depth (F.pre self.now.expr) (F.post self.now.expr) (S.pre self.now.stmt) (S.post self.now.stmt) }
-        ensures { Gives (reading.names_from self.now.tokens.now (length self.now.tokens.now) [] [] at) result }
+        requires ready { Ready self.now.tokens.now self.now.terminals.now self.now.depth (F.pre self.now.expr) (F.post self.now.expr) (S.pre self.now.stmt) (S.post self.now.stmt) }
+        ensures { Gives (combinators.names_from self.now.tokens.now (length self.now.tokens.now) [] [] at) result }
     {
         let mut names = mdg_base::Items::create(self.alloc);
         let mut offsets = mdg_base::Items::create(self.alloc);
-        for _turn in 0..self.tokens.len() {
-            let next = self.expect(Sign::Name, at)?;
+        for _iteration in 0..self.tokens.len() {
+            let next = self.expect(Terminal::Name, at)?;
             names.push(self.text(at)?)?;
-            offsets.push(self.place(at).offset)?;
-            let sign = self.sign(next);
-            if !same(sign, Sign::Comma) {
+            offsets.push(self.position(at).offset)?;
+            let terminal = self.terminal(next);
+            if !same(terminal, Terminal::Comma) {
                 return Ok(Parameters {
                     names,
                     offsets,
@@ -70,13 +71,13 @@ impl<
         Err(ReadError::NoTree)
     }
 
-    #[tactic(auto, unfolding(crate::specs::Reading::some_takes))]
-    fn some_takes(&self, at: usize) -> Result<Parameters, ReadError>
-        requires ready { Ready self.now.tokens.now self.now.signs.now self.now.depth (F.pre self.now.expr) (F.post self.now.expr) (S.pre self.now.stmt) (S.post self.now.stmt) }
-        ensures { Gives (reading.some_takes self.now.tokens.now at) result }
+    #[tactic(auto, unfolding(crate::specs::Combinators::some_parameters))]
+    fn some_parameters(&self, at: usize) -> Result<Parameters, ReadError>
+        requires ready { Ready self.now.tokens.now self.now.terminals.now self.now.depth (F.pre self.now.expr) (F.post self.now.expr) (S.pre self.now.stmt) (S.post self.now.stmt) }
+        ensures { Gives (combinators.some_parameters self.now.tokens.now at) result }
     {
         let found = self.names_from(at)?;
-        let next = self.expect(Sign::Close, found.next)?;
+        let next = self.expect(Terminal::CloseParen, found.next)?;
         Ok(Parameters {
             names: found.names,
             offsets: found.offsets,
@@ -85,15 +86,15 @@ impl<
     }
 
     /// The parameters of a function, with their parentheses.
-    #[tactic(auto, unfolding(crate::specs::Reading::takes))]
-    fn takes(&self, at: usize) -> Result<Parameters, ReadError>
-        requires ready { Ready self.now.tokens.now self.now.signs.now self.now.depth (F.pre self.now.expr) (F.post self.now.expr) (S.pre self.now.stmt) (S.post self.now.stmt) }
-        ensures { Gives (reading.takes self.now.tokens.now at) result }
+    #[tactic(auto, unfolding(crate::specs::Combinators::parameter_list))]
+    fn parameter_list(&self, at: usize) -> Result<Parameters, ReadError>
+        requires ready { Ready self.now.tokens.now self.now.terminals.now self.now.depth (F.pre self.now.expr) (F.post self.now.expr) (S.pre self.now.stmt) (S.post self.now.stmt) }
+        ensures { Gives (combinators.parameter_list self.now.tokens.now at) result }
     {
-        let next = self.expect(Sign::Open, at)?;
-        let sign = self.sign(next);
-        if !same(sign, Sign::Close) {
-            return self.some_takes(next);
+        let next = self.expect(Terminal::OpenParen, at)?;
+        let terminal = self.terminal(next);
+        if !same(terminal, Terminal::CloseParen) {
+            return self.some_parameters(next);
         }
         Ok(Parameters {
             names: mdg_base::Items::create(self.alloc),
@@ -110,9 +111,9 @@ impl<
         parameters: Parameters,
         body: Items<Stmt>,
     ) -> Function
-        ensures { result ≡ record { name = name; name_offset = name_offset; parameters = parameters.names; parameter_offsets = parameters.offsets; body = body; line = (tokens.place_at self.now.tokens.now start).line; offset = tokens.offset_at self.now.tokens.now start } }
+        ensures { result ≡ record { name = name; name_offset = name_offset; parameters = parameters.names; parameter_offsets = parameters.offsets; body = body; line = (seen.position_at self.now.tokens.now start).line; offset = seen.offset_at self.now.tokens.now start } }
     {
-        let at = self.place(start);
+        let at = self.position(start);
         Function {
             name,
             name_offset,
@@ -124,69 +125,69 @@ impl<
         }
     }
 
-    /// A function whose word `function` stands at the start, and whose parameters stand behind `at`.
-    #[tactic(auto, unfolding(crate::specs::Reading::function_from))]
+    /// A function whose keyword stands at the start, and whose parameters begin at `at`.
+    #[tactic(auto, unfolding(crate::specs::ReferenceOperands::function_from))]
     fn function_from(
         &self,
         name: Option<Text>,
         name_offset: u32,
         start: usize,
         at: usize,
-    ) -> Result<Read<Function>, ReadError>
-        requires ready { Ready self.now.tokens.now self.now.signs.now self.now.depth (F.pre self.now.expr) (F.post self.now.expr) (S.pre self.now.stmt) (S.post self.now.stmt) }
+    ) -> Result<Parsed<Function>, ReadError>
+        requires ready { Ready self.now.tokens.now self.now.terminals.now self.now.depth (F.pre self.now.expr) (F.post self.now.expr) (S.pre self.now.stmt) (S.post self.now.stmt) }
         ensures reads { Gives (at_depth.function_from self.now.tokens.now self.now.depth name name_offset start at) result }
         ensures low { IsLow (self.now.depth + 1) result }
     {
-        let parameters = self.takes(at)?;
-        let next = self.expect(Sign::OpenBrace, parameters.next)?;
+        let parameters = self.parameter_list(at)?;
+        let next = self.expect(Terminal::OpenBrace, parameters.next)?;
         let body = self.items(true, next)?;
-        let next = self.expect(Sign::CloseBrace, body.next)?;
-        Ok(Read {
+        let next = self.expect(Terminal::CloseBrace, body.next)?;
+        Ok(Parsed {
             tree: self.defined(name, name_offset, start, parameters, body.tree),
             height: body.height + 1,
             next,
         })
     }
 
-    #[tactic(auto, unfolding(crate::specs::Reading::named_function))]
-    pub fn named_function(&self, at: usize) -> Result<Read<Function>, ReadError>
-        requires ready { Ready self.now.tokens.now self.now.signs.now self.now.depth (F.pre self.now.expr) (F.post self.now.expr) (S.pre self.now.stmt) (S.post self.now.stmt) }
+    #[tactic(auto, unfolding(crate::specs::ReferenceOperands::named_function))]
+    pub fn named_function(&self, at: usize) -> Result<Parsed<Function>, ReadError>
+        requires ready { Ready self.now.tokens.now self.now.terminals.now self.now.depth (F.pre self.now.expr) (F.post self.now.expr) (S.pre self.now.stmt) (S.post self.now.stmt) }
         requires inside { at + 1 < length self.now.tokens.now }
         ensures reads { Gives (at_depth.named_function self.now.tokens.now self.now.depth at) result }
         ensures low { IsLow (self.now.depth + 1) result }
     {
         let name = self.after(at);
         let text = self.text(name)?;
-        let offset = self.place(name).offset;
+        let offset = self.position(name).offset;
         self.function_from(Some(text), offset, at, self.after(name))
     }
 
-    #[tactic(auto, unfolding(crate::specs::Reading::any_function))]
-    fn any_function(&self, at: usize) -> Result<Read<Function>, ReadError>
-        requires ready { Ready self.now.tokens.now self.now.signs.now self.now.depth (F.pre self.now.expr) (F.post self.now.expr) (S.pre self.now.stmt) (S.post self.now.stmt) }
+    #[tactic(auto, unfolding(crate::specs::ReferenceOperands::any_function))]
+    fn any_function(&self, at: usize) -> Result<Parsed<Function>, ReadError>
+        requires ready { Ready self.now.tokens.now self.now.terminals.now self.now.depth (F.pre self.now.expr) (F.post self.now.expr) (S.pre self.now.stmt) (S.post self.now.stmt) }
         requires inside { at < length self.now.tokens.now }
         ensures reads { Gives (at_depth.any_function self.now.tokens.now self.now.depth at) result }
         ensures low { IsLow (self.now.depth + 1) result }
     {
         let next = self.after(at);
-        let sign = self.sign(next);
-        if same(sign, Sign::Name) {
+        let terminal = self.terminal(next);
+        if same(terminal, Terminal::Name) {
             self.named_function(at)
         } else {
-            self.function_from(None, self.place(at).offset, at, next)
+            self.function_from(None, self.position(at).offset, at, next)
         }
     }
 
-    /// A function expression, whose name may be left out.
-    #[tactic(auto, unfolding(crate::specs::Reading::function))]
-    pub fn function(&self, at: usize) -> Result<Read<Expr>, ReadError>
-        requires ready { Ready self.now.tokens.now self.now.signs.now self.now.depth (F.pre self.now.expr) (F.post self.now.expr) (S.pre self.now.stmt) (S.post self.now.stmt) }
+    /// A function expression, whose name may be absent.
+    #[tactic(auto, unfolding(crate::specs::ReferenceOperands::function))]
+    pub fn function(&self, at: usize) -> Result<Parsed<Expr>, ReadError>
+        requires ready { Ready self.now.tokens.now self.now.terminals.now self.now.depth (F.pre self.now.expr) (F.post self.now.expr) (S.pre self.now.stmt) (S.post self.now.stmt) }
         requires inside { at < length self.now.tokens.now }
         ensures reads { Gives (at_depth.function self.now.tokens.now self.now.depth at) result }
         ensures low { IsLow (self.now.depth + 1) result }
     {
         let made = self.any_function(at)?;
-        Ok(Read {
+        Ok(Parsed {
             tree: Expr::FunctionExpression(made.tree),
             height: made.height,
             next: made.next,

@@ -1,43 +1,39 @@
 //! The grammar of strict ECMAScript 5.1: which tree the tokens of a file spell, at most one.
 //!
-//! The numbers beside the forms are sections of ECMA-262, edition 5.1.
+//! The numbers in parentheses are sections of ECMA-262, edition 5.1.
 #![tactic(auto)]
 
 mod array;
-mod closing;
+mod binary;
 mod declaration;
+mod excluded;
 mod expression;
-#[cfg(test)]
-mod expression_tests;
 mod file;
-pub mod form;
 mod function;
+mod iteration;
+mod keyword;
 mod laws;
-mod list;
-#[cfg(test)]
-mod listing;
-pub mod look;
-mod loops;
+mod lookahead;
 mod member;
 mod new;
+mod numeral;
 mod object;
-mod operation;
-pub mod outside;
+mod parsed;
+mod parser;
 mod primary;
-mod read;
+mod production;
+mod punctuator;
+mod reader;
 mod refusal;
-mod rules;
-pub mod sign;
+mod semicolon;
+mod sequence;
 mod statement;
-pub mod table;
-pub mod test;
-#[cfg(test)]
-mod tests;
+mod target;
+mod terminal;
+mod terminals;
+mod token_class;
 mod unary;
 
 pub use file::read_file;
-pub use laws::{
-    at_most_one_tree, no_tree_without_the_due_item, what_is_read_is_spelled,
-    what_is_spelled_is_read,
-};
+pub use laws::{law_answers, law_order, law_parser, law_tree};
 pub use refusal::ReadRefusal;

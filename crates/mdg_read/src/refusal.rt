@@ -11,7 +11,7 @@ pub enum ReadRefusal {
     #[error("the file does not begin with 'use strict'")]
     NotStrict,
 
-    /// A listed word stands where it names no property: the word, and its offset.
+    /// An excluded word stands where it names no property: the word, and its offset.
     #[error("a word at {1} is not of the core language")]
     NotCore(Text, u32),
 

@@ -1,53 +1,60 @@
-//! Operators before a value, and steps (11.3, 11.4).
+//! Unary and update operators (11.3, 11.4).
 
 ghost use Rattle.std.specs.Prelude.{◌+◌, ◌<◌, ◌≤◌, length};
-ghost use Rattle.mdg_read.specs.At as at_depth;
-ghost use Rattle.mdg_read.specs.At.{Gives, IsLow, Ready};
+ghost use Rattle.mdg_read.specs.Parser.{Gives, IsLow, Ready};
+ghost use Rattle.mdg_read.specs.AtDepth as at_depth;
 
-use crate::form::{Form, Read};
+use crate::parsed::Parsed;
+use crate::parser::Parser;
+use crate::production::Production;
 use crate::refusal::ReadError;
-use crate::rules::Rules;
-use crate::sign::Sign;
-use crate::test::{is_left, step_of, unary_of};
+use crate::target::is_assignment_target;
+use crate::terminal::Terminal;
+use crate::token_class::{step_of, unary_of};
 use mdg_text::Token;
 use mdg_tree::{Expr, Step, Stmt, UnaryOperator};
 use std::alloc::Global;
 
 impl<
     'a,
-    F: Fn(Global, &[Token], &[Sign], u32, Form, usize) -> Result<Read<Expr>, ReadError>,
-    S: Fn(Global, &[Token], &[Sign], u32, bool, usize) -> Result<Read<Stmt>, ReadError>,
-> Rules<'a, F, S> {
-    /// A step behind what it changes, which was read (11.3).
-    #[tactic(auto, unfolding(crate::specs::Reading::stepped))]
-    fn stepped(&self, start: usize, step: Step, target: Read<Expr>) -> Result<Read<Expr>, ReadError>
-        requires ready { Ready self.now.tokens.now self.now.signs.now self.now.depth (F.pre self.now.expr) (F.post self.now.expr) (S.pre self.now.stmt) (S.post self.now.stmt) }
+    F: Fn(Global, &[Token], &[Terminal], u32, Production, usize) -> Result<Parsed<Expr>, ReadError>,
+    S: Fn(Global, &[Token], &[Terminal], u32, bool, usize) -> Result<Parsed<Stmt>, ReadError>,
+> Parser<'a, F, S> {
+    /// An update operator after its target, which was read (11.3).
+    #[tactic(auto, unfolding(crate::specs::ReferenceExpressions::stepped))]
+    fn stepped(
+        &self,
+        start: usize,
+        step: Step,
+        target: Parsed<Expr>,
+    ) -> Result<Parsed<Expr>, ReadError>
+        requires ready { Ready self.now.tokens.now self.now.terminals.now self.now.depth (F.pre self.now.expr) (F.post self.now.expr) (S.pre self.now.stmt) (S.post self.now.stmt) }
         requires low { target.height ≤ self.now.depth + 1 }
         requires inside { target.next < length self.now.tokens.now }
         ensures reads { Gives (at_depth.stepped self.now.tokens.now self.now.depth start step target) result }
         ensures low { IsLow (self.now.depth + 1) result }
     {
-        if !is_left(&target.tree) {
+        if !is_assignment_target(&target.tree) {
             return Err(ReadError::NoTree);
         }
         let target = self.boxed(target)?;
-        self.bounded(Read {
-            tree: Expr::Postfix(self.place(start), step, target.tree),
+        self.bounded(Parsed {
+            tree: Expr::Postfix(self.position(start), step, target.tree),
             height: target.height + 1,
             next: self.after(target.next),
         })
     }
 
-    /// A step behind a value, on its line (11.3), or the value alone.
-    #[tactic(auto, unfolding(crate::specs::Reading::postfix))]
-    pub fn postfix(&self, at: usize) -> Result<Read<Expr>, ReadError>
-        requires ready { Ready self.now.tokens.now self.now.signs.now self.now.depth (F.pre self.now.expr) (F.post self.now.expr) (S.pre self.now.stmt) (S.post self.now.stmt) }
+    /// An update operator after its target, on its line (11.3), or the operand alone.
+    #[tactic(auto, unfolding(crate::specs::ReferenceExpressions::postfix))]
+    pub fn postfix(&self, at: usize) -> Result<Parsed<Expr>, ReadError>
+        requires ready { Ready self.now.tokens.now self.now.terminals.now self.now.depth (F.pre self.now.expr) (F.post self.now.expr) (S.pre self.now.stmt) (S.post self.now.stmt) }
         ensures reads { Gives (at_depth.postfix self.now.tokens.now self.now.depth at) result }
         ensures low { IsLow (self.now.depth + 1) result }
     {
-        let side = self.side(at)?;
-        let sign = self.sign(side.next);
-        let Some(step) = step_of(sign) else {
+        let side = self.left_hand_side(at)?;
+        let terminal = self.terminal(side.next);
+        let Some(step) = step_of(terminal) else {
             return Ok(side);
         };
         if self.line_before(side.next) {
@@ -57,52 +64,52 @@ impl<
     }
 
     /// An operator before a value (11.4).
-    #[tactic(auto, unfolding(crate::specs::Reading::unary_value))]
-    fn unary_value(&self, op: UnaryOperator, at: usize) -> Result<Read<Expr>, ReadError>
-        requires ready { Ready self.now.tokens.now self.now.signs.now self.now.depth (F.pre self.now.expr) (F.post self.now.expr) (S.pre self.now.stmt) (S.post self.now.stmt) }
+    #[tactic(auto, unfolding(crate::specs::ReferenceExpressions::unary_value))]
+    fn unary_value(&self, op: UnaryOperator, at: usize) -> Result<Parsed<Expr>, ReadError>
+        requires ready { Ready self.now.tokens.now self.now.terminals.now self.now.depth (F.pre self.now.expr) (F.post self.now.expr) (S.pre self.now.stmt) (S.post self.now.stmt) }
         requires inside { at < length self.now.tokens.now }
         ensures reads { Gives (at_depth.unary_value self.now.tokens.now self.now.depth op at) result }
         ensures low { IsLow (self.now.depth + 1) result }
     {
-        let value = self.part(Form::Unary, self.after(at))?;
-        Ok(Read {
-            tree: Expr::Unary(self.place(at), op, value.tree),
+        let value = self.part(Production::Unary, self.after(at))?;
+        Ok(Parsed {
+            tree: Expr::Unary(self.position(at), op, value.tree),
             height: value.height + 1,
             next: value.next,
         })
     }
 
-    /// A step before what it changes (11.4.4, 11.4.5).
-    #[tactic(auto, unfolding(crate::specs::Reading::prefix))]
-    fn prefix(&self, step: Step, at: usize) -> Result<Read<Expr>, ReadError>
-        requires ready { Ready self.now.tokens.now self.now.signs.now self.now.depth (F.pre self.now.expr) (F.post self.now.expr) (S.pre self.now.stmt) (S.post self.now.stmt) }
+    /// An update operator before its target (11.4.4, 11.4.5).
+    #[tactic(auto, unfolding(crate::specs::ReferenceExpressions::prefix))]
+    fn prefix(&self, step: Step, at: usize) -> Result<Parsed<Expr>, ReadError>
+        requires ready { Ready self.now.tokens.now self.now.terminals.now self.now.depth (F.pre self.now.expr) (F.post self.now.expr) (S.pre self.now.stmt) (S.post self.now.stmt) }
         requires inside { at < length self.now.tokens.now }
         ensures reads { Gives (at_depth.prefix self.now.tokens.now self.now.depth step at) result }
         ensures low { IsLow (self.now.depth + 1) result }
     {
-        let target = self.part(Form::Side, self.after(at))?;
-        if !is_left(target.tree.get()) {
+        let target = self.part(Production::LeftHandSide, self.after(at))?;
+        if !is_assignment_target(target.tree.get()) {
             return Err(ReadError::NoTree);
         }
-        Ok(Read {
-            tree: Expr::Prefix(self.place(at), step, target.tree),
+        Ok(Parsed {
+            tree: Expr::Prefix(self.position(at), step, target.tree),
             height: target.height + 1,
             next: target.next,
         })
     }
 
-    /// A value with the operators and steps around it (11.4).
-    #[tactic(auto, unfolding(crate::specs::Reading::unary))]
-    pub fn unary(&self, at: usize) -> Result<Read<Expr>, ReadError>
-        requires ready { Ready self.now.tokens.now self.now.signs.now self.now.depth (F.pre self.now.expr) (F.post self.now.expr) (S.pre self.now.stmt) (S.post self.now.stmt) }
+    /// An operand with the unary and update operators around it (11.4).
+    #[tactic(auto, unfolding(crate::specs::ReferenceExpressions::unary))]
+    pub fn unary(&self, at: usize) -> Result<Parsed<Expr>, ReadError>
+        requires ready { Ready self.now.tokens.now self.now.terminals.now self.now.depth (F.pre self.now.expr) (F.post self.now.expr) (S.pre self.now.stmt) (S.post self.now.stmt) }
         ensures reads { Gives (at_depth.unary self.now.tokens.now self.now.depth at) result }
         ensures low { IsLow (self.now.depth + 1) result }
     {
-        let sign = self.sign(at);
-        if let Some(step) = step_of(sign) {
+        let terminal = self.terminal(at);
+        if let Some(step) = step_of(terminal) {
             return self.prefix(step, at);
         }
-        match unary_of(sign) {
+        match unary_of(terminal) {
             Some(op) => self.unary_value(op, at),
             None => self.postfix(at),
         }

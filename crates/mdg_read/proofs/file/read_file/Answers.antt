@@ -11,7 +11,7 @@ returns-in_err-items-clause-only c = λ core tree f.
 
 pub returns-clause-cause : goal.returns-clause-cause
 returns-clause-cause c =
-    (c.in_default.ensures, record { start = c.in_ok-start.start; begins = c.in_ok-start.ensures; first = c.place_at.ensures; spelled = c.in_ok-items.ensures.reached; low = file_low c.args.tokens.now _ _ c.in_ok-items.ensures.low })
+    (c.in_default.ensures, record { start = c.in_ok-start.start; begins = c.in_ok-start.ensures; first = c.position_at.ensures; spelled = c.in_ok-items.ensures.reached; low = file_low c.args.tokens.now _ _ c.in_ok-items.ensures.low })
 
 pub returns-clause-only : goal.returns-clause-only
-returns-clause-only c = λ core tree f. ap (λ z. record { at = z; items = c.in_ok-items.items }) c.place_at.ensures ∙ one_file c.args.tokens.now c.in_ok-start.start c.in_ok-items.items c.in_ok-start.ensures c.in_ok-items.ensures.reached tree f
+returns-clause-only c = λ core tree f. ap (λ z. record { at = z; items = c.in_ok-items.items }) c.position_at.ensures ∙ one_file c.args.tokens.now c.in_ok-start.start c.in_ok-items.items c.in_ok-start.ensures c.in_ok-items.ensures.reached tree f
