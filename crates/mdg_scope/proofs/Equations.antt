@@ -1,5 +1,5 @@
 -- What each form adds to the occurrences, by its parts.
-use Rattle.std.proofs.Common.{◌≡◌, ℕ, List, [], map, sym, ap, ◌∙◌}
+use Rattle.std.proofs.Common.{◌≡◌, ℕ, List, [], map, sym, ap, ◌∙◌, subst}
 use Rattle.std.specs.Prelude.{Option, Some, None, option_map}
 use Rattle.mdg_tree.specs.declared.tree.At.{At}
 use Rattle.mdg_tree.specs.declared.tree.Expr.{Expr}
@@ -14,8 +14,11 @@ use Rattle.mdg_tree.specs.declared.tree.Stmt.TheVariants as s
 use Rattle.mdg_tree.specs.declared.tree.Init.TheVariants as i
 use Rattle.mdg_tree.specs.declared.tree.Goal.TheVariants as g
 use Rattle.mdg_tree.specs.declared.tree.Expr.TheOpen.{Expr-F, Goal-F, Init-F, Stmt-F}
-use Rattle.mdg_tree.specs.declared.tree.Expr.TheFolds.{fold-roll-Expr, fold-roll-Stmt, fold-roll-Init, fold-roll-Goal, fold_out-Property, fold_out-Function, fold_out-Declaration}
+use Rattle.mdg_tree.specs.declared.tree.Expr.TheViews.{roll-Expr}
+use Rattle.mdg_tree.specs.declared.tree.Expr.TheFolds.{ind-Expr, map-Expr, fold-roll-Expr, fold-roll-Stmt, fold-roll-Init, fold-roll-Goal, fold_out-Property, fold_out-Function, fold_out-Declaration}
+use Rattle.mdg_tree.specs.Views as views
 use Rattle.mdg_tree.specs.Views.{key_name}
+use Rattle.mdg_tree.proofs.ViewEquations as view
 use Rattle.mdg_scope.specs.declared.occurrence.Occurrences.{Occurrences}
 use Rattle.mdg_scope.specs.declared.occurrence.Context.{Context}
 use Rattle.mdg_scope.specs.declared.occurrence.Use.{Use}
@@ -111,203 +114,194 @@ pub expr_collector-Object : (at : _) (ps : List Property) → expr_collector (e.
 unfolding expr_collector goal_occurrences init_occurrences stmt_occurrences declaration_occurrences function_occurrences property_occurrences
 expr_collector-Object at ps = ap expr_collector (sym (e.rolls-Object at ps)) ∙ fold-roll-Expr ExprCollector Collector Collector Collector Collector FunctionCollector PropertyCollector expr_step goal_step init_step stmt_step declaration_step function_step property_step (Expr-F.Object at ps)
 
+-- the name and the text of an expression are those of its tree
+record SameView (tree : Expr) : Type 0 where
+  pub name : name_of tree ≡ views.name_of tree
+  pub text : text_of tree ≡ views.string_of tree
+
+abbrev Seen : Type 0
+Seen = (tree : Expr) × SameView tree
+
+abbrev Any : Type 0 → Type 0
+Any A = A × Unit {0}
+
+-- one layer of an expression, with what is known of the parts in it
+abbrev Layer : Type 0
+Layer = Expr-F Seen (Any Goal) (Any Init) (Any Stmt) (Any Declaration) (Any Function) (Any Property)
+
+abbrev bare : Layer → Expr-F Expr Goal Init Stmt Declaration Function Property
+bare = map-Expr Seen (Any Goal) (Any Init) (Any Stmt) (Any Declaration) (Any Function) (Any Property)
+    Expr Goal Init Stmt Declaration Function Property (λ x. x.0) (λ x. x.0) (λ x. x.0) (λ x. x.0) (λ x. x.0) (λ x. x.0) (λ x. x.0)
+
+view_as : (tree made : Expr) → tree ≡ made → SameView made → SameView tree
+view_as tree made is same = subst SameView (sym is) same
+
+layer : (y : Layer) → SameView (roll-Expr (bare y))
+layer (Expr-F.Comma at es) = view_as _ _ (e.rolls-Comma at (map (λ x. x.0) es)) (record {
+  name = ap (λ x. x.name) (expr_collector-Comma at (map (λ x. x.0) es)) ∙ sym (view.name-Comma at (map (λ x. x.0) es));
+  text = ap (λ x. x.text) (expr_collector-Comma at (map (λ x. x.0) es)) ∙ sym (view.string-Comma at (map (λ x. x.0) es));
+})
+layer (Expr-F.Assign at op target value) = view_as _ _ (e.rolls-Assign at op target.0 value.0) (record {
+  name = ap (λ x. x.name) (expr_collector-Assign at op target.0 value.0) ∙ sym (view.name-Assign at op target.0 value.0);
+  text = ap (λ x. x.text) (expr_collector-Assign at op target.0 value.0) ∙ sym (view.string-Assign at op target.0 value.0);
+})
+layer (Expr-F.Conditional at test chosen other) = view_as _ _ (e.rolls-Conditional at test.0 chosen.0 other.0) (record {
+  name = ap (λ x. x.name) (expr_collector-Conditional at test.0 chosen.0 other.0) ∙ sym (view.name-Conditional at test.0 chosen.0 other.0);
+  text = ap (λ x. x.text) (expr_collector-Conditional at test.0 chosen.0 other.0) ∙ sym (view.string-Conditional at test.0 chosen.0 other.0);
+})
+layer (Expr-F.Binary at op left right) = view_as _ _ (e.rolls-Binary at op left.0 right.0) (record {
+  name = ap (λ x. x.name) (expr_collector-Binary at op left.0 right.0) ∙ sym (view.name-Binary at op left.0 right.0);
+  text = ap (λ x. x.text) (expr_collector-Binary at op left.0 right.0) ∙ sym (view.string-Binary at op left.0 right.0);
+})
+layer (Expr-F.Unary at op value) = view_as _ _ (e.rolls-Unary at op value.0) (record {
+  name = ap (λ x. x.name) (expr_collector-Unary at op value.0) ∙ sym (view.name-Unary at op value.0);
+  text = ap (λ x. x.text) (expr_collector-Unary at op value.0) ∙ sym (view.string-Unary at op value.0);
+})
+layer (Expr-F.Prefix at step target) = view_as _ _ (e.rolls-Prefix at step target.0) (record {
+  name = ap (λ x. x.name) (expr_collector-Prefix at step target.0) ∙ sym (view.name-Prefix at step target.0);
+  text = ap (λ x. x.text) (expr_collector-Prefix at step target.0) ∙ sym (view.string-Prefix at step target.0);
+})
+layer (Expr-F.Postfix at step target) = view_as _ _ (e.rolls-Postfix at step target.0) (record {
+  name = ap (λ x. x.name) (expr_collector-Postfix at step target.0) ∙ sym (view.name-Postfix at step target.0);
+  text = ap (λ x. x.text) (expr_collector-Postfix at step target.0) ∙ sym (view.string-Postfix at step target.0);
+})
+layer (Expr-F.New at callee) = view_as _ _ (e.rolls-New at callee.0) (record {
+  name = ap (λ x. x.name) (expr_collector-New at callee.0) ∙ sym (view.name-New at callee.0);
+  text = ap (λ x. x.text) (expr_collector-New at callee.0) ∙ sym (view.string-New at callee.0);
+})
+layer (Expr-F.NewWithArguments at callee es) = view_as _ _ (e.rolls-NewWithArguments at callee.0 (map (λ x. x.0) es)) (record {
+  name = ap (λ x. x.name) (expr_collector-NewWithArguments at callee.0 (map (λ x. x.0) es)) ∙ sym (view.name-NewWithArguments at callee.0 (map (λ x. x.0) es));
+  text = ap (λ x. x.text) (expr_collector-NewWithArguments at callee.0 (map (λ x. x.0) es)) ∙ sym (view.string-NewWithArguments at callee.0 (map (λ x. x.0) es));
+})
+layer (Expr-F.Call at callee es) = view_as _ _ (e.rolls-Call at callee.0 (map (λ x. x.0) es)) (record {
+  name = ap (λ x. x.name) (expr_collector-Call at callee.0 (map (λ x. x.0) es)) ∙ sym (view.name-Call at callee.0 (map (λ x. x.0) es));
+  text = ap (λ x. x.text) (expr_collector-Call at callee.0 (map (λ x. x.0) es)) ∙ sym (view.string-Call at callee.0 (map (λ x. x.0) es));
+})
+layer (Expr-F.Index at object key) = view_as _ _ (e.rolls-Index at object.0 key.0) (record {
+  name = ap (λ x. x.name) (expr_collector-Index at object.0 key.0) ∙ sym (view.name-Index at object.0 key.0);
+  text = ap (λ x. x.text) (expr_collector-Index at object.0 key.0) ∙ sym (view.string-Index at object.0 key.0);
+})
+layer (Expr-F.Member at object name) = view_as _ _ (e.rolls-Member at object.0 name) (record {
+  name = ap (λ x. x.name) (expr_collector-Member at object.0 name) ∙ sym (view.name-Member at object.0 name);
+  text = ap (λ x. x.text) (expr_collector-Member at object.0 name) ∙ sym (view.string-Member at object.0 name);
+})
+layer (Expr-F.FunctionExpression f) = view_as _ _ (e.rolls-FunctionExpression f.0) (record {
+  name = ap (λ x. x.name) (expr_collector-FunctionExpression f.0) ∙ sym (view.name-FunctionExpression f.0);
+  text = ap (λ x. x.text) (expr_collector-FunctionExpression f.0) ∙ sym (view.string-FunctionExpression f.0);
+})
+layer (Expr-F.Name at name) = view_as _ _ (e.rolls-Name at name) (record {
+  name = ap (λ x. x.name) (expr_collector-Name at name) ∙ sym (view.name-Name at name);
+  text = ap (λ x. x.text) (expr_collector-Name at name) ∙ sym (view.string-Name at name);
+})
+layer (Expr-F.Null at) = view_as _ _ (e.rolls-Null at) (record {
+  name = ap (λ x. x.name) (expr_collector-Null at) ∙ sym (view.name-Null at);
+  text = ap (λ x. x.text) (expr_collector-Null at) ∙ sym (view.string-Null at);
+})
+layer (Expr-F.True at) = view_as _ _ (e.rolls-True at) (record {
+  name = ap (λ x. x.name) (expr_collector-True at) ∙ sym (view.name-True at);
+  text = ap (λ x. x.text) (expr_collector-True at) ∙ sym (view.string-True at);
+})
+layer (Expr-F.False at) = view_as _ _ (e.rolls-False at) (record {
+  name = ap (λ x. x.name) (expr_collector-False at) ∙ sym (view.name-False at);
+  text = ap (λ x. x.text) (expr_collector-False at) ∙ sym (view.string-False at);
+})
+layer (Expr-F.Numeral at text) = view_as _ _ (e.rolls-Numeral at text) (record {
+  name = ap (λ x. x.name) (expr_collector-Numeral at text) ∙ sym (view.name-Numeral at text);
+  text = ap (λ x. x.text) (expr_collector-Numeral at text) ∙ sym (view.string-Numeral at text);
+})
+layer (Expr-F.Text at text) = view_as _ _ (e.rolls-Text at text) (record {
+  name = ap (λ x. x.name) (expr_collector-Text at text) ∙ sym (view.name-Text at text);
+  text = ap (λ x. x.text) (expr_collector-Text at text) ∙ sym (view.string-Text at text);
+})
+layer (Expr-F.Paren at inner) = view_as _ _ (e.rolls-Paren at inner.0) (record {
+  name = ap (λ x. x.name) (expr_collector-Paren at inner.0) ∙ inner.1.name ∙ sym (view.name-Paren at inner.0);
+  text = ap (λ x. x.text) (expr_collector-Paren at inner.0) ∙ inner.1.text ∙ sym (view.string-Paren at inner.0);
+})
+layer (Expr-F.Array at es) = view_as _ _ (e.rolls-Array at (map (λ x. x.0) es)) (record {
+  name = ap (λ x. x.name) (expr_collector-Array at (map (λ x. x.0) es)) ∙ sym (view.name-Array at (map (λ x. x.0) es));
+  text = ap (λ x. x.text) (expr_collector-Array at (map (λ x. x.0) es)) ∙ sym (view.string-Array at (map (λ x. x.0) es));
+})
+layer (Expr-F.Object at ps) = view_as _ _ (e.rolls-Object at (map (λ x. x.0) ps)) (record {
+  name = ap (λ x. x.name) (expr_collector-Object at (map (λ x. x.0) ps)) ∙ sym (view.name-Object at (map (λ x. x.0) ps));
+  text = ap (λ x. x.text) (expr_collector-Object at (map (λ x. x.0) ps)) ∙ sym (view.string-Object at (map (λ x. x.0) ps));
+})
+
+same_view : (tree : Expr) → SameView tree
+same_view = ind-Expr SameView (λ x. Unit {0}) (λ x. Unit {0}) (λ x. Unit {0}) (λ x. Unit {0}) (λ x. Unit {0}) (λ x. Unit {0})
+    (λ x y is. subst (λ z. SameView (roll-Expr z)) is (layer y))
+    (λ x y is. tt) (λ x y is. tt) (λ x y is. tt) (λ x y is. tt) (λ x y is. tt) (λ x y is. tt)
+
+pub same_name : (tree : Expr) → name_of tree ≡ views.name_of tree
+same_name tree = (same_view tree).name
+
+pub same_text : (tree : Expr) → text_of tree ≡ views.string_of tree
+same_text tree = (same_view tree).text
+
 pub used-Comma : (at : At) (es : List Expr) (usage : Use) (p : Context) (c : Occurrences) → used_of (e.Comma at es) usage p c ≡ read_all (map expr_collector es) p c
 used-Comma at es usage p c = ap (λ x. x.used usage p c) (expr_collector-Comma at es)
-
-pub name-Comma : (at : At) (es : List Expr) → name_of (e.Comma at es) ≡ None
-name-Comma at es = ap (λ x. x.name) (expr_collector-Comma at es)
-
-pub text-Comma : (at : At) (es : List Expr) → text_of (e.Comma at es) ≡ None
-text-Comma at es = ap (λ x. x.text) (expr_collector-Comma at es)
 
 pub used-Assign : (at : At) (op : _) (target : Expr) (value : Expr) (usage : Use) (p : Context) (c : Occurrences) → used_of (e.Assign at op target value) usage p c ≡ read_of value p (assigned_of target p c)
 used-Assign at op target value usage p c = ap (λ x. x.used usage p c) (expr_collector-Assign at op target value)
 
-pub name-Assign : (at : At) (op : _) (target : Expr) (value : Expr) → name_of (e.Assign at op target value) ≡ None
-name-Assign at op target value = ap (λ x. x.name) (expr_collector-Assign at op target value)
-
-pub text-Assign : (at : At) (op : _) (target : Expr) (value : Expr) → text_of (e.Assign at op target value) ≡ None
-text-Assign at op target value = ap (λ x. x.text) (expr_collector-Assign at op target value)
-
 pub used-Conditional : (at : At) (test : Expr) (chosen : Expr) (other : Expr) (usage : Use) (p : Context) (c : Occurrences) → used_of (e.Conditional at test chosen other) usage p c ≡ read_of other p (read_of chosen p (read_of test p c))
 used-Conditional at test chosen other usage p c = ap (λ x. x.used usage p c) (expr_collector-Conditional at test chosen other)
-
-pub name-Conditional : (at : At) (test : Expr) (chosen : Expr) (other : Expr) → name_of (e.Conditional at test chosen other) ≡ None
-name-Conditional at test chosen other = ap (λ x. x.name) (expr_collector-Conditional at test chosen other)
-
-pub text-Conditional : (at : At) (test : Expr) (chosen : Expr) (other : Expr) → text_of (e.Conditional at test chosen other) ≡ None
-text-Conditional at test chosen other = ap (λ x. x.text) (expr_collector-Conditional at test chosen other)
 
 pub used-Binary : (at : At) (op : _) (left : Expr) (right : Expr) (usage : Use) (p : Context) (c : Occurrences) → used_of (e.Binary at op left right) usage p c ≡ read_of right p (read_of left p c)
 used-Binary at op left right usage p c = ap (λ x. x.used usage p c) (expr_collector-Binary at op left right)
 
-pub name-Binary : (at : At) (op : _) (left : Expr) (right : Expr) → name_of (e.Binary at op left right) ≡ None
-name-Binary at op left right = ap (λ x. x.name) (expr_collector-Binary at op left right)
-
-pub text-Binary : (at : At) (op : _) (left : Expr) (right : Expr) → text_of (e.Binary at op left right) ≡ None
-text-Binary at op left right = ap (λ x. x.text) (expr_collector-Binary at op left right)
-
-pub used-Unary : (at : At) (op : _) (value : Expr) (usage : Use) (p : Context) (c : Occurrences) → used_of (e.Unary at op value) usage p c ≡ used_of value (operand_use op) p (operator_occurrence op (name_of value) at.offset p c)
-used-Unary at op value usage p c = ap (λ x. x.used usage p c) (expr_collector-Unary at op value)
-
-pub name-Unary : (at : At) (op : _) (value : Expr) → name_of (e.Unary at op value) ≡ None
-name-Unary at op value = ap (λ x. x.name) (expr_collector-Unary at op value)
-
-pub text-Unary : (at : At) (op : _) (value : Expr) → text_of (e.Unary at op value) ≡ None
-text-Unary at op value = ap (λ x. x.text) (expr_collector-Unary at op value)
+pub used-Unary : (at : At) (op : _) (value : Expr) (usage : Use) (p : Context) (c : Occurrences) → used_of (e.Unary at op value) usage p c ≡ used_of value (operand_use op) p (operator_occurrence op (views.name_of value) at.offset p c)
+used-Unary at op value usage p c = ap (λ x. x.used usage p c) (expr_collector-Unary at op value) ∙ ap (λ x. used_of value (operand_use op) p (operator_occurrence op x at.offset p c)) (same_name value)
 
 pub used-Prefix : (at : At) (step : _) (target : Expr) (usage : Use) (p : Context) (c : Occurrences) → used_of (e.Prefix at step target) usage p c ≡ assigned_of target p c
 used-Prefix at step target usage p c = ap (λ x. x.used usage p c) (expr_collector-Prefix at step target)
 
-pub name-Prefix : (at : At) (step : _) (target : Expr) → name_of (e.Prefix at step target) ≡ None
-name-Prefix at step target = ap (λ x. x.name) (expr_collector-Prefix at step target)
-
-pub text-Prefix : (at : At) (step : _) (target : Expr) → text_of (e.Prefix at step target) ≡ None
-text-Prefix at step target = ap (λ x. x.text) (expr_collector-Prefix at step target)
-
 pub used-Postfix : (at : At) (step : _) (target : Expr) (usage : Use) (p : Context) (c : Occurrences) → used_of (e.Postfix at step target) usage p c ≡ assigned_of target p c
 used-Postfix at step target usage p c = ap (λ x. x.used usage p c) (expr_collector-Postfix at step target)
 
-pub name-Postfix : (at : At) (step : _) (target : Expr) → name_of (e.Postfix at step target) ≡ None
-name-Postfix at step target = ap (λ x. x.name) (expr_collector-Postfix at step target)
+pub used-New : (at : At) (callee : Expr) (usage : Use) (p : Context) (c : Occurrences) → used_of (e.New at callee) usage p c ≡ read_of callee p (constructed_occurrence (views.name_of callee) at.offset p c)
+used-New at callee usage p c = ap (λ x. x.used usage p c) (expr_collector-New at callee) ∙ ap (λ x. read_of callee p (constructed_occurrence x at.offset p c)) (same_name callee)
 
-pub text-Postfix : (at : At) (step : _) (target : Expr) → text_of (e.Postfix at step target) ≡ None
-text-Postfix at step target = ap (λ x. x.text) (expr_collector-Postfix at step target)
-
-pub used-New : (at : At) (callee : Expr) (usage : Use) (p : Context) (c : Occurrences) → used_of (e.New at callee) usage p c ≡ read_of callee p (constructed_occurrence (name_of callee) at.offset p c)
-used-New at callee usage p c = ap (λ x. x.used usage p c) (expr_collector-New at callee)
-
-pub name-New : (at : At) (callee : Expr) → name_of (e.New at callee) ≡ None
-name-New at callee = ap (λ x. x.name) (expr_collector-New at callee)
-
-pub text-New : (at : At) (callee : Expr) → text_of (e.New at callee) ≡ None
-text-New at callee = ap (λ x. x.text) (expr_collector-New at callee)
-
-pub used-NewWithArguments : (at : At) (callee : Expr) (es : List Expr) (usage : Use) (p : Context) (c : Occurrences) → used_of (e.NewWithArguments at callee es) usage p c ≡ read_all (map expr_collector es) p (read_of callee p (constructed_occurrence (name_of callee) at.offset p c))
-used-NewWithArguments at callee es usage p c = ap (λ x. x.used usage p c) (expr_collector-NewWithArguments at callee es)
-
-pub name-NewWithArguments : (at : At) (callee : Expr) (es : List Expr) → name_of (e.NewWithArguments at callee es) ≡ None
-name-NewWithArguments at callee es = ap (λ x. x.name) (expr_collector-NewWithArguments at callee es)
-
-pub text-NewWithArguments : (at : At) (callee : Expr) (es : List Expr) → text_of (e.NewWithArguments at callee es) ≡ None
-text-NewWithArguments at callee es = ap (λ x. x.text) (expr_collector-NewWithArguments at callee es)
+pub used-NewWithArguments : (at : At) (callee : Expr) (es : List Expr) (usage : Use) (p : Context) (c : Occurrences) → used_of (e.NewWithArguments at callee es) usage p c ≡ read_all (map expr_collector es) p (read_of callee p (constructed_occurrence (views.name_of callee) at.offset p c))
+used-NewWithArguments at callee es usage p c = ap (λ x. x.used usage p c) (expr_collector-NewWithArguments at callee es) ∙ ap (λ x. read_all (map expr_collector es) p (read_of callee p (constructed_occurrence x at.offset p c))) (same_name callee)
 
 pub used-Call : (at : At) (callee : Expr) (es : List Expr) (usage : Use) (p : Context) (c : Occurrences) → used_of (e.Call at callee es) usage p c ≡ read_all (map expr_collector es) p (used_of callee (callee_use (only_text (map expr_collector es))) p c)
 used-Call at callee es usage p c = ap (λ x. x.used usage p c) (expr_collector-Call at callee es)
 
-pub name-Call : (at : At) (callee : Expr) (es : List Expr) → name_of (e.Call at callee es) ≡ None
-name-Call at callee es = ap (λ x. x.name) (expr_collector-Call at callee es)
-
-pub text-Call : (at : At) (callee : Expr) (es : List Expr) → text_of (e.Call at callee es) ≡ None
-text-Call at callee es = ap (λ x. x.text) (expr_collector-Call at callee es)
-
 pub used-Index : (at : At) (object : Expr) (key : Expr) (usage : Use) (p : Context) (c : Occurrences) → used_of (e.Index at object key) usage p c ≡ read_of key p (read_of object p c)
 used-Index at object key usage p c = ap (λ x. x.used usage p c) (expr_collector-Index at object key)
-
-pub name-Index : (at : At) (object : Expr) (key : Expr) → name_of (e.Index at object key) ≡ None
-name-Index at object key = ap (λ x. x.name) (expr_collector-Index at object key)
-
-pub text-Index : (at : At) (object : Expr) (key : Expr) → text_of (e.Index at object key) ≡ None
-text-Index at object key = ap (λ x. x.text) (expr_collector-Index at object key)
 
 pub used-Member : (at : At) (object : Expr) (name : List ℕ) (usage : Use) (p : Context) (c : Occurrences) → used_of (e.Member at object name) usage p c ≡ read_of object p c
 used-Member at object name usage p c = ap (λ x. x.used usage p c) (expr_collector-Member at object name)
 
-pub name-Member : (at : At) (object : Expr) (name : List ℕ) → name_of (e.Member at object name) ≡ None
-name-Member at object name = ap (λ x. x.name) (expr_collector-Member at object name)
-
-pub text-Member : (at : At) (object : Expr) (name : List ℕ) → text_of (e.Member at object name) ≡ None
-text-Member at object name = ap (λ x. x.text) (expr_collector-Member at object name)
-
 pub used-FunctionExpression : (f : Function) (usage : Use) (p : Context) (c : Occurrences) → used_of (e.FunctionExpression f) usage p c ≡ (function_occurrences f).expressed p c
 used-FunctionExpression f usage p c = ap (λ x. x.used usage p c) (expr_collector-FunctionExpression f)
-
-pub name-FunctionExpression : (f : Function) → name_of (e.FunctionExpression f) ≡ None
-name-FunctionExpression f = ap (λ x. x.name) (expr_collector-FunctionExpression f)
-
-pub text-FunctionExpression : (f : Function) → text_of (e.FunctionExpression f) ≡ None
-text-FunctionExpression f = ap (λ x. x.text) (expr_collector-FunctionExpression f)
 
 pub used-Name : (at : At) (name : List ℕ) (usage : Use) (p : Context) (c : Occurrences) → used_of (e.Name at name) usage p c ≡ add (use_kind usage at.line) at.offset p.function name c
 used-Name at name usage p c = ap (λ x. x.used usage p c) (expr_collector-Name at name)
 
-pub name-Name : (at : At) (name : List ℕ) → name_of (e.Name at name) ≡ Some name
-name-Name at name = ap (λ x. x.name) (expr_collector-Name at name)
-
-pub text-Name : (at : At) (name : List ℕ) → text_of (e.Name at name) ≡ None
-text-Name at name = ap (λ x. x.text) (expr_collector-Name at name)
-
 pub used-Null : (at : At) (usage : Use) (p : Context) (c : Occurrences) → used_of (e.Null at) usage p c ≡ c
 used-Null at usage p c = ap (λ x. x.used usage p c) (expr_collector-Null at)
-
-pub name-Null : (at : At) → name_of (e.Null at) ≡ None
-name-Null at = ap (λ x. x.name) (expr_collector-Null at)
-
-pub text-Null : (at : At) → text_of (e.Null at) ≡ None
-text-Null at = ap (λ x. x.text) (expr_collector-Null at)
 
 pub used-True : (at : At) (usage : Use) (p : Context) (c : Occurrences) → used_of (e.True at) usage p c ≡ c
 used-True at usage p c = ap (λ x. x.used usage p c) (expr_collector-True at)
 
-pub name-True : (at : At) → name_of (e.True at) ≡ None
-name-True at = ap (λ x. x.name) (expr_collector-True at)
-
-pub text-True : (at : At) → text_of (e.True at) ≡ None
-text-True at = ap (λ x. x.text) (expr_collector-True at)
-
 pub used-False : (at : At) (usage : Use) (p : Context) (c : Occurrences) → used_of (e.False at) usage p c ≡ c
 used-False at usage p c = ap (λ x. x.used usage p c) (expr_collector-False at)
-
-pub name-False : (at : At) → name_of (e.False at) ≡ None
-name-False at = ap (λ x. x.name) (expr_collector-False at)
-
-pub text-False : (at : At) → text_of (e.False at) ≡ None
-text-False at = ap (λ x. x.text) (expr_collector-False at)
 
 pub used-Numeral : (at : At) (text : List ℕ) (usage : Use) (p : Context) (c : Occurrences) → used_of (e.Numeral at text) usage p c ≡ c
 used-Numeral at text usage p c = ap (λ x. x.used usage p c) (expr_collector-Numeral at text)
 
-pub name-Numeral : (at : At) (text : List ℕ) → name_of (e.Numeral at text) ≡ None
-name-Numeral at text = ap (λ x. x.name) (expr_collector-Numeral at text)
-
-pub text-Numeral : (at : At) (text : List ℕ) → text_of (e.Numeral at text) ≡ None
-text-Numeral at text = ap (λ x. x.text) (expr_collector-Numeral at text)
-
 pub used-Text : (at : At) (text : List ℕ) (usage : Use) (p : Context) (c : Occurrences) → used_of (e.Text at text) usage p c ≡ c
 used-Text at text usage p c = ap (λ x. x.used usage p c) (expr_collector-Text at text)
-
-pub name-Text : (at : At) (text : List ℕ) → name_of (e.Text at text) ≡ None
-name-Text at text = ap (λ x. x.name) (expr_collector-Text at text)
-
-pub text-Text : (at : At) (text : List ℕ) → text_of (e.Text at text) ≡ Some text
-text-Text at text = ap (λ x. x.text) (expr_collector-Text at text)
 
 pub used-Paren : (at : At) (inner : Expr) (usage : Use) (p : Context) (c : Occurrences) → used_of (e.Paren at inner) usage p c ≡ used_of inner usage p c
 used-Paren at inner usage p c = ap (λ x. x.used usage p c) (expr_collector-Paren at inner)
 
-pub name-Paren : (at : At) (inner : Expr) → name_of (e.Paren at inner) ≡ name_of inner
-name-Paren at inner = ap (λ x. x.name) (expr_collector-Paren at inner)
-
-pub text-Paren : (at : At) (inner : Expr) → text_of (e.Paren at inner) ≡ text_of inner
-text-Paren at inner = ap (λ x. x.text) (expr_collector-Paren at inner)
-
 pub used-Array : (at : At) (es : List Expr) (usage : Use) (p : Context) (c : Occurrences) → used_of (e.Array at es) usage p c ≡ read_all (map expr_collector es) p c
 used-Array at es usage p c = ap (λ x. x.used usage p c) (expr_collector-Array at es)
 
-pub name-Array : (at : At) (es : List Expr) → name_of (e.Array at es) ≡ None
-name-Array at es = ap (λ x. x.name) (expr_collector-Array at es)
-
-pub text-Array : (at : At) (es : List Expr) → text_of (e.Array at es) ≡ None
-text-Array at es = ap (λ x. x.text) (expr_collector-Array at es)
-
 pub used-Object : (at : At) (ps : List Property) (usage : Use) (p : Context) (c : Occurrences) → used_of (e.Object at ps) usage p c ≡ all_values (map property_occurrences ps) p (repeated_keys p.function [] (map property_occurrences ps) c)
 used-Object at ps usage p c = ap (λ x. x.used usage p c) (expr_collector-Object at ps)
-
-pub name-Object : (at : At) (ps : List Property) → name_of (e.Object at ps) ≡ None
-name-Object at ps = ap (λ x. x.name) (expr_collector-Object at ps)
-
-pub text-Object : (at : At) (ps : List Property) → text_of (e.Object at ps) ≡ None
-text-Object at ps = ap (λ x. x.text) (expr_collector-Object at ps)
 
 stmt_said-Block : (at : At) (body : List Stmt) → stmt_occurrences (s.Block at body) ≡ stmt_step (Stmt-F.Block at (map stmt_occurrences body))
 unfolding expr_collector goal_occurrences init_occurrences stmt_occurrences declaration_occurrences function_occurrences property_occurrences
@@ -494,10 +488,6 @@ pub declaration-is : (d : Declaration) (p : Context) (c : Occurrences) → decla
 declaration-is d p c = declaration_said d.at d.name d.value p c
 
 pub ruleset uses = (used-Comma, used-Assign, used-Conditional, used-Binary, used-Unary, used-Prefix, used-Postfix, used-New, used-NewWithArguments, used-Call, used-Index, used-Member, used-FunctionExpression, used-Name, used-Null, used-True, used-False, used-Numeral, used-Text, used-Paren, used-Array, used-Object)
-
-pub ruleset names = (name-Comma, name-Assign, name-Conditional, name-Binary, name-Unary, name-Prefix, name-Postfix, name-New, name-NewWithArguments, name-Call, name-Index, name-Member, name-FunctionExpression, name-Name, name-Null, name-True, name-False, name-Numeral, name-Text, name-Paren, name-Array, name-Object)
-
-pub ruleset texts = (text-Comma, text-Assign, text-Conditional, text-Binary, text-Unary, text-Prefix, text-Postfix, text-New, text-NewWithArguments, text-Call, text-Index, text-Member, text-FunctionExpression, text-Name, text-Null, text-True, text-False, text-Numeral, text-Text, text-Paren, text-Array, text-Object)
 
 pub ruleset statements = (stmt-Block, stmt-Var, stmt-Empty, stmt-Expression, stmt-If, stmt-IfElse, stmt-DoWhile, stmt-While, stmt-ForIn, stmt-Continue, stmt-Break, stmt-Return, stmt-ReturnValue, stmt-Throw, stmt-FunctionDeclaration, stmt-For, init-Absent, init-Declarations, init-Initial, goal-Variable, goal-Target)
 

@@ -8,7 +8,7 @@ use Rattle.mdg_tree.specs.Views.{key_name}
 use Rattle.mdg_scope.specs.Collectors.{add, repeated_keys}
 use Rattle.mdg_scope.specs.Occurrences.{property_occurrences}
 use Rattle.mdg_scope.proofs.Equations.{property-key, property-offset}
-use Rattle.mdg_scope.proofs.Walks.{drop_at}
+use Rattle.mdg_base.proofs.Lists.{drop_at}
 
 pub one_key : (within : ℕ) (seen seen' : List (List ℕ)) (c c' : Occurrences) (ps : List Property) (i : ℕ) (d one : Property) → i < length ps → one ≡ get_or ps i d
     → seen' ≡ add_name seen (key_name one.key)

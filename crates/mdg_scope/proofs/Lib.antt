@@ -6,3 +6,7 @@ pub mod NameLemmas
 pub mod ViolationLemmas
 pub mod RefusalLemmas
 pub mod KeyLemmas
+pub mod AnswerLemmas
+pub mod OffsetLemmas
+pub mod OffsetTrees
+pub mod OrderLemmas

@@ -49,6 +49,16 @@ abbrev pub IsAnswer : List ℕ → FileTree → Profile → Result Bound ScopeRe
 IsAnswer path tree profile (Ok bound) = Binds path tree profile bound
 IsAnswer path tree profile (Err refusal) = IsRefusal path (scopes (file_occurrences tree) profile) (file_occurrences tree) refusal
 
+-- a tree has at most one answer but the refusal of memory,
+abbrev pub HasOneAnswer : Type 0
+HasOneAnswer = (path : List ℕ) (tree : FileTree) (profile : Profile) (one other : Result Bound ScopeRefusal)
+    → (one ≡ Err NoMemory → ⊥) → (other ≡ Err NoMemory → ⊥) → IsAnswer path tree profile one → IsAnswer path tree profile other → one ≡ other
+
+-- and at least one
+abbrev pub HasSomeAnswer : Type 0
+HasSomeAnswer = (path : List ℕ) (tree : FileTree) (profile : Profile)
+    → (answer : Result Bound ScopeRefusal) × (answer ≡ Err NoMemory → ⊥) × IsAnswer path tree profile answer
+
 -- the same of the parts of an answer, over the occurrences
 abbrev pub IsAnswerOver : List ℕ → Scopes → At → List Occurrence → Result Parts ScopeRefusal → Type 0
 IsAnswerOver path t at ws (Ok parts) = HasParts path t at ws parts × IsClean path t ws

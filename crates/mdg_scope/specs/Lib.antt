@@ -6,3 +6,4 @@ pub mod Resolution
 pub mod Violations
 pub mod Functions
 pub mod Bindings
+pub mod OccurrenceOrder

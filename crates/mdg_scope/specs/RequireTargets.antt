@@ -1,29 +1,14 @@
 -- What a call of `require` asks for, by its text and the path of its file.
-use Rattle.std.specs.Prelude.{ℕ, ◌-◌, ◌==◌, nat_eq, Bool, ◌||◌, List, [], ◌∷◌, ◌++◌, codes, length, take, drop, Option, Some, None, option_and_then, if◌then◌else◌}
-use Rattle.std.specs.List.{slice_split, starts_with, ends_with}
+use Rattle.std.specs.Prelude.{ℕ, ◌==◌, nat_eq, Bool, ◌||◌, List, [], ◌∷◌, ◌++◌, codes, length, drop, Option, Some, None, if◌then◌else◌}
+use Rattle.std.specs.List.{starts_with, ends_with}
 use Rattle.std.specs.Str.{bytes_eq}
+use Rattle.mdg_base.specs.Segments.{segments, followed, stays, folder_of}
 use Rattle.mdg_scope.specs.declared.require_target.RequireTarget.{RequireTarget}
 use Rattle.mdg_scope.specs.declared.require_target.RequireTarget.TheVariants.{Refused, Bare, InPackage}
 
--- what stands between the `/`
-abbrev pub split_path : List ℕ → List (List ℕ)
-split_path path = slice_split (λ b. b == 47) path
-
--- `..` takes the last segment away
-abbrev pub up : List (List ℕ) → Option (List (List ℕ))
-up segments = if length segments == 0 then None else Some (take (length segments - 1) segments)
-
--- One segment on. An empty one and `.` stay; there is nothing above the package's folder.
-abbrev pub entered : List (List ℕ) → List ℕ → Option (List (List ℕ))
-entered segments segment = if (length segment == 0) || bytes_eq segment (codes ".") then Some segments else (if bytes_eq segment (codes "..") then up segments else Some (segments ++ segment ∷ []))
-
-abbrev pub followed : List (List ℕ) → List (List ℕ) → Option (List (List ℕ))
-followed segments [] = Some segments
-followed segments (segment ∷ rest) = option_and_then (λ next. followed next rest) (entered segments segment)
-
--- from the folder of the file with this path along the text
+-- from the folder of the file with this path along the text, where that never leaves the package's folder
 abbrev pub joined : List ℕ → List ℕ → Option (List (List ℕ))
-joined path text = option_and_then (λ folder. followed folder (split_path text)) (followed [] (take (length (split_path path) - 1) (split_path path)))
+joined path text = if stays (folder_of path) (segments text) then Some (followed (folder_of path) (segments text)) else None
 
 -- each segment after a `/`
 abbrev pub slashed : List (List ℕ) → List ℕ

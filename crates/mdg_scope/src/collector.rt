@@ -2,6 +2,7 @@
 
 ghost use Rattle.std.specs.Prelude.{◌≡◌, ◌+◌, [], OnOk, IfOk, map, option_map, if◌then◌else◌};
 ghost use Rattle.std.specs.Option.{option_copied};
+ghost use Rattle.mdg_tree.specs.Views as views;
 ghost use Rattle.mdg_scope.specs.Names.{add_name, has_name};
 ghost use Rattle.mdg_scope.specs.Collectors as collectors;
 ghost use Rattle.mdg_scope.specs.Occurrences as occurrences;
@@ -9,9 +10,10 @@ ghost use Rattle.mdg_scope.specs.declared.occurrence.OccurrenceKind.TheVariants 
 
 use crate::names::Names;
 use crate::occurrence::{Context, Head, Occurrence, OccurrenceKind, Occurrences, Use};
-use mdg_base::{Items, NoMemory, Text};
+use mdg_base::{Items, NoMemory, Text, copy_optional, copy_texts};
 use mdg_tree::{
     Declaration, Expr, FileTree, Function, Goal, Init, Property, Stmt, UnaryOperator, key_name,
+    name_of, string_of,
 };
 use std::alloc::Global;
 
@@ -35,66 +37,11 @@ fn add(
     Ok(())
 }
 
-/// The text that the expression is.
-#[tactic(auto, using(crate::proofs::Equations::texts))]
+/// The string literal that the expression is, as its occurrences tell it.
 fn text_of(tree: &Expr) -> Option<&Text>
     ensures { option_copied result ≡ occurrences.text_of tree.now }
 {
-    match tree {
-        Expr::Text(_, text) => Some(text),
-        Expr::Paren(_, inner) => text_of(inner.get()),
-        Expr::Comma(..)
-        | Expr::Assign(..)
-        | Expr::Conditional(..)
-        | Expr::Binary(..)
-        | Expr::Unary(..)
-        | Expr::Prefix(..)
-        | Expr::Postfix(..)
-        | Expr::New(..)
-        | Expr::NewWithArguments(..)
-        | Expr::Call(..)
-        | Expr::Index(..)
-        | Expr::Member(..)
-        | Expr::FunctionExpression(..)
-        | Expr::Name(..)
-        | Expr::Null(..)
-        | Expr::True(..)
-        | Expr::False(..)
-        | Expr::Numeral(..)
-        | Expr::Array(..)
-        | Expr::Object(..) => None,
-    }
-}
-
-/// The name that the expression is.
-#[tactic(auto, using(crate::proofs::Equations::names))]
-fn name_of(tree: &Expr) -> Option<&Text>
-    ensures { option_copied result ≡ occurrences.name_of tree.now }
-{
-    match tree {
-        Expr::Name(_, name) => Some(name),
-        Expr::Paren(_, inner) => name_of(inner.get()),
-        Expr::Comma(..)
-        | Expr::Assign(..)
-        | Expr::Conditional(..)
-        | Expr::Binary(..)
-        | Expr::Unary(..)
-        | Expr::Prefix(..)
-        | Expr::Postfix(..)
-        | Expr::New(..)
-        | Expr::NewWithArguments(..)
-        | Expr::Call(..)
-        | Expr::Index(..)
-        | Expr::Member(..)
-        | Expr::FunctionExpression(..)
-        | Expr::Text(..)
-        | Expr::Null(..)
-        | Expr::True(..)
-        | Expr::False(..)
-        | Expr::Numeral(..)
-        | Expr::Array(..)
-        | Expr::Object(..) => None,
-    }
+    string_of(tree)
 }
 
 /// The text that is the only argument.
@@ -112,7 +59,7 @@ fn callee_use(alloc: Global, arguments: &[Expr]) -> Result<Use, NoMemory>
     ensures { IfOk result (λ u. u ≡ collectors.callee_use (collectors.only_text (map occurrences.expr_collector arguments.now))) }
 {
     match only_text(arguments) {
-        Some(text) => Ok(Use::Called(Text::of(alloc, text.as_str())?)),
+        Some(text) => Ok(Use::Called(text.copy(alloc)?)),
         None => Ok(Use::Read),
     }
 }
@@ -127,7 +74,7 @@ fn use_kind(alloc: Global, usage: &Use, line: u32) -> Result<OccurrenceKind, NoM
         Use::TypeOperand => Ok(OccurrenceKind::TypeOperand),
         Use::Called(text) => Ok(OccurrenceKind::Called(crate::occurrence::Callee {
             line,
-            text: Text::of(alloc, text.as_str())?,
+            text: text.copy(alloc)?,
         })),
     }
 }
@@ -155,7 +102,7 @@ fn deleted(
     offset: u32,
     context: Context,
 ) -> Result<(), NoMemory>
-    ensures { OnOk result (into.new ≡ collectors.deleted_occurrence (occurrences.name_of operand.now) offset context into.old) }
+    ensures { OnOk result (into.new ≡ collectors.deleted_occurrence (views.name_of operand.now) offset context into.old) }
 {
     match name_of(operand) {
         Some(name) => add(
@@ -178,7 +125,7 @@ fn constructed(
     offset: u32,
     context: Context,
 ) -> Result<(), NoMemory>
-    ensures { OnOk result (into.new ≡ collectors.constructed_occurrence (occurrences.name_of callee.now) offset context into.old) }
+    ensures { OnOk result (into.new ≡ collectors.constructed_occurrence (views.name_of callee.now) offset context into.old) }
 {
     match name_of(callee) {
         Some(name) => add(
@@ -231,7 +178,7 @@ fn operator_occurrence(
     offset: u32,
     context: Context,
 ) -> Result<(), NoMemory>
-    ensures { OnOk result (into.new ≡ collectors.operator_occurrence operator (occurrences.name_of operand.now) offset context into.old) }
+    ensures { OnOk result (into.new ≡ collectors.operator_occurrence operator (views.name_of operand.now) offset context into.old) }
 {
     match operator {
         UnaryOperator::Delete => deleted(into, alloc, operand, offset, context),
@@ -318,8 +265,8 @@ fn begin_occurrence(
     };
     let head = Head {
         number,
-        name: copy_name(alloc, &function.name)?,
-        parameters: copy_names(alloc, function.parameters.as_slice())?,
+        name: copy_optional(alloc, &function.name)?,
+        parameters: copy_texts(alloc, function.parameters.as_slice())?,
         line: function.line,
     };
     into.all.push(Occurrence {
@@ -330,25 +277,6 @@ fn begin_occurrence(
     })?;
     into.begun = number;
     Ok(number)
-}
-
-pub fn copy_name(alloc: Global, name: &Option<Text>) -> Result<Option<Text>, NoMemory>
-    ensures { IfOk result (λ n. n ≡ name.now) }
-{
-    match name {
-        Some(text) => Ok(Some(Text::of(alloc, text.as_str())?)),
-        None => Ok(None),
-    }
-}
-
-pub fn copy_names(alloc: Global, names: &[Text]) -> Result<Items<Text>, NoMemory>
-    ensures { IfOk result (λ n. n ≡ names.now) }
-{
-    let mut made = Items::create(alloc);
-    for name in names {
-        made.push(Text::of(alloc, name.as_str())?)?;
-    }
-    Ok(made)
 }
 
 fn offset_at(offsets: &[u32], other: u32, index: usize) -> u32

@@ -5,11 +5,10 @@ ghost use Rattle.mdg_scope.specs.Functions as functions_of;
 ghost use Rattle.mdg_scope.specs.Resolution as resolutions;
 
 use crate::bound::BoundFunction;
-use crate::collector::{copy_name, copy_names};
 use crate::names::ScopedNames;
 use crate::occurrence::{Head, Occurrence, OccurrenceKind};
 use crate::resolution::{Resolution, Scopes};
-use mdg_base::{Items, NoMemory, Text};
+use mdg_base::{Items, NoMemory, Text, copy_optional, copy_texts};
 use mdg_tree::At;
 use std::alloc::Global;
 
@@ -173,8 +172,8 @@ fn head_function<'a>(
 {
     Ok(BoundFunction {
         parent: Some(occurrence.within),
-        name: copy_name(alloc, &head.name)?,
-        parameters: copy_names(alloc, head.parameters.as_slice())?,
+        name: copy_optional(alloc, &head.name)?,
+        parameters: copy_texts(alloc, head.parameters.as_slice())?,
         locals: Items::create(alloc),
         cells: Items::create(alloc),
         own_name: has_own_name(scopes, uses, head),

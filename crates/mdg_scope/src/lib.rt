@@ -8,18 +8,18 @@ mod binding;
 mod bound;
 mod collector;
 mod function;
+mod laws;
 mod names;
 mod occurrence;
 mod refusal;
 mod require_target;
 mod required;
 mod resolution;
-#[cfg(test)]
-mod tests;
 mod violation;
 
 pub use binding::bind;
 pub use bound::{Bound, BoundFunction, Goal, Require};
+pub use laws::{law_answers, law_order};
 pub use names::Names;
 pub use refusal::ScopeRefusal;
 pub use resolution::{Resolution, free_resolution, globals, is_literal};

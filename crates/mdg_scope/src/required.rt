@@ -32,7 +32,7 @@ fn put_require(
         RequireTarget::InPackage => made.push(Require {
             offset,
             line,
-            text: Text::of(alloc, callee.text.as_str())?,
+            text: callee.text.copy(alloc)?,
             goal: Goal::Path,
         }),
     }

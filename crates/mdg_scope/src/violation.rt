@@ -189,7 +189,7 @@ fn violation_by(
         Some(kind) => Ok(Some(Violation {
             offset: occurrence.offset,
             kind,
-            name: Text::of(alloc, occurrence.name.as_str())?,
+            name: occurrence.name.copy(alloc)?,
         })),
         None => Ok(None),
     }
