@@ -1,71 +1,72 @@
 -- A walk has at most one outcome.
 use Rattle.std.proofs.Common.{◌≡◌, ℕ, List, [], ◌∷◌, ◌++◌, length, refl, sym, ◌∙◌, ap, ap₂, subst}
 use Rattle.std.specs.Prelude.{Some, None, slice_get, Result, Ok, Err}
-use Rattle.mdg_pack.specs.Finding.{goes, ends, paths, found, no_search, followed_of}
+use Rattle.mdg_pack.specs.ModuleResolution.{ends}
+use Rattle.mdg_pack.specs.ModuleTable.{paths}
+use Rattle.mdg_pack.specs.RequireGoals.{resolved_requires_of}
 use Rattle.mdg_pack.specs.Reads.{Given, gives, fails, later}
-use Rattle.mdg_pack.specs.Loading.{LoadsFile}
+use Rattle.mdg_pack.specs.Load.{LoadsFile}
 use Rattle.mdg_pack.specs.Manifest.{Enters, HasEntry, manifest, entry_of_value}
-use Rattle.mdg_pack.specs.Paths.{Path}
+use Rattle.mdg_pack.specs.Paths.{FilePath}
 use Rattle.mdg_pack.specs.Walk.{Outcome, refused, packed, Walks, finished, unread, stopped, further, with_required, Starts, no_entry, entered, WalkBy, failed_manifest, no_manifest, manifested, after_manifest}
 use Rattle.mdg_pack.specs.declared.fault.PackFault.{PackFault}
-use Rattle.mdg_pack.specs.declared.search.Found.{Found}
-use Rattle.mdg_pack.specs.declared.search.Search.{Search}
+use Rattle.mdg_pack.specs.declared.module_table.SourceFile.{SourceFile}
+use Rattle.mdg_pack.specs.declared.module_table.ModuleTable.{ModuleTable}
 use Rattle.mdg_port.specs.declared.folder.Fetched.{Fetched}
 use Rattle.mdg_port.specs.declared.folder.Fetched.TheVariants.{Absent, TooLong, Bytes}
 use Rattle.mdg_profile.specs.declared.entry.Profile.{Profile}
 use Rattle.mdg_profile.specs.Format.{IsJson}
 use Rattle.mdg_scope.specs.declared.bound.Bound.{Bound}
-use Rattle.mdg_scope.specs.declared.bound.Require.{Require}
 use Rattle.serde_json.specs.Data.{Data}
 use Rattle.mdg_pack.proofs.OneLoad.{one_load}
-use Rattle.mdg_pack.proofs.WalkLemmas.{next_walks, same_load}
+use Rattle.mdg_pack.proofs.WalkLemmas.{next_loads}
 
 module _ (given : Given) (profile : Profile) where
   -- no file is left
-  one_finished : (search : Search) (done : List Bound) (outcome : Outcome) → slice_get search.files (length done) ≡ None → Walks given profile search done outcome → outcome ≡ packed (paths search) done
-  one_finished search done outcome none (finished other) = refl
-  one_finished search done outcome none (unread file at loads) = let no = sym none ∙ at in absurd cc
-  one_finished search done outcome none (stopped file bound at loads is) = let no = sym none ∙ at in absurd cc
-  one_finished search done outcome none (further file bound required after at loads is rest) = let no = sym none ∙ at in absurd cc
+  one_finished : (table : ModuleTable) (done : List Bound) (outcome : Outcome) → slice_get table.files (length done) ≡ None → Walks given profile table done outcome → outcome ≡ packed (paths table) done
+  one_finished table done outcome none (finished other) = refl
+  one_finished table done outcome none (unread file at loads) = let no = sym none ∙ at in absurd cc
+  one_finished table done outcome none (stopped file bound at loads is) = let no = sym none ∙ at in absurd cc
+  one_finished table done outcome none (further file bound required after at loads is rest) = let no = sym none ∙ at in absurd cc
 
-  module _ (search : Search) (done : List Bound) (file : Found) (at : slice_get search.files (length done) ≡ Some file) where
-    other_load : (other : Found) (r s : Result Bound PackFault) → LoadsFile profile file r → slice_get search.files (length done) ≡ Some other → LoadsFile profile other s → s ≡ r
+  module _ (table : ModuleTable) (done : List Bound) (file : SourceFile) (at : slice_get table.files (length done) ≡ Some file) where
+    other_load : (other : SourceFile) (r s : Result Bound PackFault) → LoadsFile profile file r → slice_get table.files (length done) ≡ Some other → LoadsFile profile other s → s ≡ r
     other_load other r s loads there is =
         let both = sym there ∙ at in
         let same : other ≡ file = cc in
-        one_load profile file.path file.bytes s r (subst (λ (f : Found). LoadsFile profile f s) same is) loads
+        one_load profile file.path file.bytes s r (subst (λ (f : SourceFile). LoadsFile profile f s) same is) loads
 
-    one_unread : (refusal : PackFault) → LoadsFile profile file (Err refusal) → (outcome : Outcome) → Walks given profile search done outcome → outcome ≡ refused (paths search) refusal
+    one_unread : (refusal : PackFault) → LoadsFile profile file (Err refusal) → (outcome : Outcome) → Walks given profile table done outcome → outcome ≡ refused (paths table) refusal
     one_unread refusal loads outcome (finished none) = let no = sym none ∙ at in absurd cc
     one_unread refusal loads outcome (unread other {refusal = r} there is) =
         let both = other_load other (Err refusal) (Err r) loads there is in
-        let same : r ≡ refusal = cc in ap (refused (paths search)) same
+        let same : r ≡ refusal = cc in ap (refused (paths table)) same
     one_unread refusal loads outcome (stopped other b there is ended) = let no = other_load other (Err refusal) (Ok b) loads there is in absurd cc
     one_unread refusal loads outcome (further other b required after there is went rest) = let no = other_load other (Err refusal) (Ok b) loads there is in absurd cc
 
-    one_stopped : (bound : Bound) (asked : List Path) (refusal : PackFault) → LoadsFile profile file (Ok bound) → followed_of given bound search ≡ ends asked refusal → (outcome : Outcome) → Walks given profile search done outcome → outcome ≡ refused asked refusal
+    one_stopped : (bound : Bound) (asked : List FilePath) (refusal : PackFault) → LoadsFile profile file (Ok bound) → resolved_requires_of given bound table ≡ ends asked refusal → (outcome : Outcome) → Walks given profile table done outcome → outcome ≡ refused asked refusal
     one_stopped bound asked refusal loads ended outcome (finished none) = let no = sym none ∙ at in absurd cc
     one_stopped bound asked refusal loads ended outcome (unread other {refusal = r} there is) = let no = other_load other (Ok bound) (Err r) loads there is in absurd cc
     one_stopped bound asked refusal loads ended outcome (stopped other b {asked = asked'} {refusal = r} there is ended') =
         let both = other_load other (Ok bound) (Ok b) loads there is in
         let same : b ≡ bound = cc in
-        let steps = sym ended' ∙ ap (λ x. followed_of given x search) same ∙ ended in
+        let steps = sym ended' ∙ ap (λ x. resolved_requires_of given x table) same ∙ ended in
         let paths_same : asked' ≡ asked = cc in
         let refusal_same : r ≡ refusal = cc in
         ap₂ refused paths_same refusal_same
     one_stopped bound asked refusal loads ended outcome (further other b required after there is went rest) =
         let both = other_load other (Ok bound) (Ok b) loads there is in
         let same : b ≡ bound = cc in
-        let no = sym went ∙ ap (λ x. followed_of given x search) same ∙ ended in absurd cc
+        let no = sym went ∙ ap (λ x. resolved_requires_of given x table) same ∙ ended in absurd cc
 
-  one_walks : (search : Search) (done : List Bound) (one other : Outcome) → Walks given profile search done one → Walks given profile search done other → other ≡ one
-  one_walks search done one other (finished none) walks = one_finished search done other none walks
-  one_walks search done one other (unread file {refusal = r} at loads) walks = one_unread search done file at r loads other walks
-  one_walks search done one other (stopped file bound {asked = asked} {refusal = r} at loads is) walks = one_stopped search done file at bound asked r loads is other walks
-  one_walks search done one other (further file bound required after at loads is rest) walks =
-      one_walks after (done ++ with_required bound required ∷ []) one other rest (next_walks given profile search done file at bound loads required after is other walks)
+  one_walks : (table : ModuleTable) (done : List Bound) (one other : Outcome) → Walks given profile table done one → Walks given profile table done other → other ≡ one
+  one_walks table done one other (finished none) walks = one_finished table done other none walks
+  one_walks table done one other (unread file {refusal = r} at loads) walks = one_unread table done file at r loads other walks
+  one_walks table done one other (stopped file bound {asked = asked} {refusal = r} at loads is) walks = one_stopped table done file at bound asked r loads is other walks
+  one_walks table done one other (further file bound required after at loads is rest) walks =
+      one_walks after (done ++ with_required bound required ∷ []) one other rest (next_loads given profile table done file at bound loads required after is other walks)
 
-  one_starts : (entry : List Path) (one other : Outcome) → Starts given profile entry one → Starts given profile entry other → other ≡ one
+  one_starts : (entry : List FilePath) (one other : Outcome) → Starts given profile entry one → Starts given profile entry other → other ≡ one
   one_starts entry one other (no_entry {asked = a} {refusal = r} is) (no_entry {asked = b} {refusal = s} other_is) =
       let both = sym other_is ∙ is in
       let paths_same : b ≡ a = cc in
@@ -81,11 +82,11 @@ module _ (given : Given) (profile : Profile) where
 one_value : (bytes : List ℕ) (v w : Data) → IsJson bytes v → IsJson bytes w → v ≡ w
 one_value bytes v w p q = let both = sym p.read_as ∙ q.read_as in cc
 
-one_entry : (bytes : List ℕ) (a b : List Path) → HasEntry bytes a → HasEntry bytes b → a ≡ b
+one_entry : (bytes : List ℕ) (a b : List FilePath) → HasEntry bytes a → HasEntry bytes b → a ≡ b
 one_entry bytes a b p q =
     let both = sym p.says ∙ ap entry_of_value (one_value bytes p.value q.value p.json q.json) ∙ q.says in cc
 
-one_enters : (read : Fetched) (a b : Result (List Path) PackFault) → Enters read a → Enters read b → a ≡ b
+one_enters : (read : Fetched) (a b : Result (List FilePath) PackFault) → Enters read a → Enters read b → a ≡ b
 one_enters Absent (Ok a) (Ok b) p q = ap Ok (p ∙ sym q)
 one_enters Absent (Ok a) (Err s) p q = absurd q
 one_enters Absent (Err r) b p q = absurd p

@@ -1,6 +1,6 @@
 -- What the reads of a walk give, each by its number and its path.
 use Rattle.std.specs.Prelude.{◌≡◌, ℕ, suc, ◌≤◌, nat_eq, if◌then◌else◌, List, length, Option, Some, None}
-use Rattle.mdg_pack.specs.Paths.{Path}
+use Rattle.mdg_pack.specs.Paths.{FilePath}
 use Rattle.mdg_port.specs.Held.{Held}
 use Rattle.mdg_port.specs.Reads.{fetched}
 use Rattle.mdg_port.specs.declared.folder.Fetched.{Fetched}
@@ -13,7 +13,7 @@ pub data Reading : Type 0 where
 
 -- what the read with each number gives of each path; reads count from 0
 abbrev pub Given : Type 0
-Given = ℕ → Path → Reading
+Given = ℕ → FilePath → Reading
 
 -- the reads after the first one, counted anew
 abbrev pub later : Given → Given
@@ -25,7 +25,8 @@ most_bytes = 1048576
 
 -- no read gives more bytes than a file may have
 abbrev pub AreShort : Given → Type 0
-AreShort given = (number : ℕ) (path : Path) (bytes : List ℕ) → given number path ≡ gives (Bytes bytes) → length bytes ≤ most_bytes
+AreShort given = (number : ℕ) (path : FilePath) (bytes : List ℕ)
+    → given number path ≡ gives (Bytes bytes) → length bytes ≤ most_bytes
 
 -- The reads of a folder that holds this, in which the read with this number fails, or none does.
 abbrev pub reads_of : Held → Option ℕ → Given

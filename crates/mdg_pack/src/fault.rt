@@ -8,7 +8,7 @@ use std::alloc::{AllocError, AllocFailed};
 use thiserror::Error;
 
 /// Why `gather` has no package to give. A path is one from the package's folder. A line counts from 1, and is 1
-/// where the refusal that is carried has no offset. What is carried is never want of memory.
+/// where the refusal that is carried has no offset. What is carried is never the refusal of memory.
 #[derive(Debug, Drop, Error)]
 pub enum PackFault {
     /// `package.json` is no object of JSON, or its `main` is no text, leaves the folder, or ends in `.json` or `.node`.

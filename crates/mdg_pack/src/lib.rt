@@ -1,15 +1,14 @@
 //! The walk of a package: from `package.json` to the entry, and from each file to those that it requires.
 #![tactic(auto)]
 
+mod candidates;
 mod fault;
-mod finding;
-mod following;
-mod loading;
 mod manifest;
+mod module_resolution;
+mod module_table;
 mod path;
-mod search;
-#[cfg(test)]
-mod tests;
+mod require_goals;
+mod source;
 mod walk;
 
 pub use fault::PackFault;

@@ -5,8 +5,8 @@ ghost use Rattle.mdg_pack.specs.Manifest as spec;
 ghost use Rattle.serde_json.specs.View.{view};
 
 use crate::PackFault;
-use crate::path::{INDEX, has_end, named_at_root, walk};
-use mdg_base::{Items, NoMemory, Text};
+use crate::candidates::{INDEX, candidates_at_root, has_end};
+use mdg_base::{Items, NoMemory, Segments, Text};
 use serde_json::Value;
 use std::alloc::Global;
 
@@ -15,8 +15,8 @@ use std::alloc::Global;
 fn is_wrong_main(alloc: Global, main: &str) -> Result<bool, NoMemory>
     ensures { IfOk result (λ wrong. wrong ≡ spec.is_wrong_main main.now) }
 {
-    let mut place = Vec::new(alloc);
-    let stays = walk(alloc, &mut place, main)?;
+    let mut place = Segments::create(alloc);
+    let stays = place.follow(alloc, main)?;
     Ok(has_end(main, ".json") || has_end(main, ".node") || !stays)
 }
 
@@ -40,7 +40,7 @@ fn entry_of_text(alloc: Global, main: &str) -> Result<Items<Text>, PackFault>
     if is_wrong_main(alloc, main)? {
         return Err(PackFault::BadManifest);
     }
-    let mut entry = named_at_root(alloc, main)?;
+    let mut entry = candidates_at_root(alloc, main)?;
     entry.push(Text::of(alloc, INDEX)?)?;
     Ok(entry)
 }

@@ -1,19 +1,21 @@
 //! The walk of a package.
 ghost use Rattle.std.specs.Prelude.{◌≡◌, ◌≤◌, ◌<◌, length, IfOk, IfSome, None, Err};
-ghost use Rattle.mdg_pack.specs.Outside.{IsSound, Saw, Stays, outside};
-ghost use Rattle.mdg_pack.specs.Answered.{HasOneOutcome, IsDecided, IsSomeWalk, IsUnlessMemory, IsWalked};
-ghost use Rattle.mdg_pack.specs.Gathering.{EnteredAnswer, EntryAnswer, GatherAnswer, StartAnswer, TurnAnswer, WalkAnswer};
-ghost use Rattle.mdg_pack.specs.Packaged.{IsPackage};
-ghost use Rattle.mdg_pack.specs.Paths.{Path};
+ghost use Rattle.mdg_base.specs.Memory.{IsUnlessMemory};
+ghost use Rattle.mdg_pack.specs.Answers.{HasOneOutcome, HasSomeOutcome, IsDecided, IsSomeWalk, IsWalked};
+ghost use Rattle.mdg_pack.specs.Effects.{IsSound, Saw, Stays, folder_view};
+ghost use Rattle.mdg_pack.specs.PackageFiles.{IsPackage};
+ghost use Rattle.mdg_pack.specs.Paths.{FilePath};
 ghost use Rattle.mdg_pack.specs.Walk.{Outcome, Walk};
+ghost use Rattle.mdg_pack.specs.WalkAnswers.{EntryAnswer, GatherAnswer, LoadAllAnswer, LoadFromEntryAnswer, LoadNextAnswer};
+ghost use Rattle.mdg_pack.specs.WalkAnswers.{LoadWithManifestAnswer};
 ghost use Rattle.mdg_port.specs.Causes.{Rose, Stood};
 
 use crate::PackFault;
-use crate::finding::{MOST_BYTES, find};
-use crate::following::follow;
-use crate::loading::load;
 use crate::manifest::{entry_of_manifest, entry_without_manifest};
-use crate::search::Search;
+use crate::module_resolution::{MOST_BYTES, resolve};
+use crate::module_table::ModuleTable;
+use crate::require_goals::resolve_requires;
+use crate::source::load_file;
 use mdg_base::{Items, Text};
 use mdg_port::{Fetched, Folder, FolderFault};
 use mdg_profile::Profile;
@@ -46,78 +48,79 @@ fn with_required(file: Bound, required: Items<Require>) -> Bound
     }
 }
 
-// The file with a number: it is tested, and then its requires are found.
-fn turn<F: Folder>(
+// The file with a number: it is tested, and then its requires are resolved.
+fn load_next<F: Folder>(
     alloc: Global,
     folder: &mut F,
     profile: &Profile,
-    search: &mut Search,
+    table: &mut ModuleTable,
     number: usize,
 ) -> Result<Bound, PackFault>
-    requires sound { IsSound search.old }
-    requires saw { Saw (F.held folder.old) search.old }
-    requires inside { number < length search.old.files }
-    ensures stays { Stays (outside (F.held folder.old) (F.reads folder.old) (F.faults folder.old))
-        (outside (F.held folder.new) (F.reads folder.new) (F.faults folder.new)) }
-    ensures turned { TurnAnswer profile.now number
-        (outside (F.held folder.old) (F.reads folder.old) (F.faults folder.old))
-        (outside (F.held folder.new) (F.reads folder.new) (F.faults folder.new)) search.old search.new result }
+    requires sound { IsSound table.old }
+    requires saw { Saw (F.held folder.old) table.old }
+    requires inside { number < length table.old.files }
+    ensures stays { Stays (folder_view (F.held folder.old) (F.reads folder.old) (F.faults folder.old))
+        (folder_view (F.held folder.new) (F.reads folder.new) (F.faults folder.new)) }
+    ensures answers { LoadNextAnswer profile.now number
+        (folder_view (F.held folder.old) (F.reads folder.old) (F.faults folder.old))
+        (folder_view (F.held folder.new) (F.reads folder.new) (F.faults folder.new)) table.old table.new result }
 {
-    let file = &search.files.as_slice()[number];
-    let bound = load(alloc, file.path.as_str(), file.bytes.as_slice(), profile)?;
-    let required = follow(
+    let file = &table.files.as_slice()[number];
+    let bound = load_file(alloc, file.path.as_str(), file.bytes.as_slice(), profile)?;
+    let required = resolve_requires(
         alloc,
         folder,
-        search,
+        table,
         bound.path.as_str(),
         bound.required.as_slice(),
     )?;
     Ok(with_required(bound, required))
 }
 
-// The files on from what was found, by their numbers.
-fn walk<F: Folder>(
+// The files of the table, and those that they require, by their numbers.
+fn load_all<F: Folder>(
     alloc: Global,
     folder: &mut F,
     profile: &Profile,
-    search: &mut Search,
+    table: &mut ModuleTable,
 ) -> Result<Items<Bound>, PackFault>
-    requires sound { IsSound search.old }
-    requires saw { Saw (F.held folder.old) search.old }
-    ensures stays { Stays (outside (F.held folder.old) (F.reads folder.old) (F.faults folder.old))
-        (outside (F.held folder.new) (F.reads folder.new) (F.faults folder.new)) }
-    ensures walked { WalkAnswer profile.now
-        (outside (F.held folder.old) (F.reads folder.old) (F.faults folder.old))
-        (outside (F.held folder.new) (F.reads folder.new) (F.faults folder.new)) search.old result }
+    requires sound { IsSound table.old }
+    requires saw { Saw (F.held folder.old) table.old }
+    ensures stays { Stays (folder_view (F.held folder.old) (F.reads folder.old) (F.faults folder.old))
+        (folder_view (F.held folder.new) (F.reads folder.new) (F.faults folder.new)) }
+    ensures answers { LoadAllAnswer profile.now
+        (folder_view (F.held folder.old) (F.reads folder.old) (F.faults folder.old))
+        (folder_view (F.held folder.new) (F.reads folder.new) (F.faults folder.new)) table.old result }
 {
     let mut done = Items::create(alloc);
-    while done.as_slice().len() < search.files.as_slice().len() {
+    while done.as_slice().len() < table.files.as_slice().len() {
         let number = done.as_slice().len();
-        done.push(turn(alloc, folder, profile, search, number)?)?;
+        done.push(load_next(alloc, folder, profile, table, number)?)?;
     }
     Ok(done)
 }
 
 // The files from the entry on.
-fn start<F: Folder>(
+fn load_from_entry<F: Folder>(
     alloc: Global,
     folder: &mut F,
     profile: &Profile,
     entry: &[Text],
 ) -> Result<Items<Bound>, PackFault>
-    ensures stays { Stays (outside (F.held folder.old) (F.reads folder.old) (F.faults folder.old))
-        (outside (F.held folder.new) (F.reads folder.new) (F.faults folder.new)) }
-    ensures started { StartAnswer profile.now entry.now
-        (outside (F.held folder.old) (F.reads folder.old) (F.faults folder.old))
-        (outside (F.held folder.new) (F.reads folder.new) (F.faults folder.new)) result }
+    requires { 0 < length entry.now }
+    ensures stays { Stays (folder_view (F.held folder.old) (F.reads folder.old) (F.faults folder.old))
+        (folder_view (F.held folder.new) (F.reads folder.new) (F.faults folder.new)) }
+    ensures answers { LoadFromEntryAnswer profile.now entry.now
+        (folder_view (F.held folder.old) (F.reads folder.old) (F.faults folder.old))
+        (folder_view (F.held folder.new) (F.reads folder.new) (F.faults folder.new)) result }
 {
-    let mut search = Search::create(alloc);
-    find(alloc, folder, &mut search, entry)?;
-    walk(alloc, folder, profile, &mut search)
+    let mut table = ModuleTable::create(alloc);
+    resolve(alloc, folder, &mut table, entry)?;
+    load_all(alloc, folder, profile, &mut table)
 }
 
 // The candidates for the entry, by what a read of the manifest gave.
-fn entry_of(alloc: Global, read: Fetched) -> Result<Items<Text>, PackFault>
+fn entry_candidates(alloc: Global, read: Fetched) -> Result<Items<Text>, PackFault>
     ensures { EntryAnswer read result }
 {
     match read {
@@ -128,36 +131,36 @@ fn entry_of(alloc: Global, read: Fetched) -> Result<Items<Text>, PackFault>
 }
 
 // The package by what a read of the manifest gave.
-fn enter<F: Folder>(
+fn load_with_manifest<F: Folder>(
     alloc: Global,
     folder: &mut F,
     profile: &Profile,
     read: Fetched,
 ) -> Result<Package, PackFault>
-    ensures stays { Stays (outside (F.held folder.old) (F.reads folder.old) (F.faults folder.old))
-        (outside (F.held folder.new) (F.reads folder.new) (F.faults folder.new)) }
-    ensures entered { EnteredAnswer profile.now read
-        (outside (F.held folder.old) (F.reads folder.old) (F.faults folder.old))
-        (outside (F.held folder.new) (F.reads folder.new) (F.faults folder.new)) result }
+    ensures stays { Stays (folder_view (F.held folder.old) (F.reads folder.old) (F.faults folder.old))
+        (folder_view (F.held folder.new) (F.reads folder.new) (F.faults folder.new)) }
+    ensures answers { LoadWithManifestAnswer profile.now read
+        (folder_view (F.held folder.old) (F.reads folder.old) (F.faults folder.old))
+        (folder_view (F.held folder.new) (F.reads folder.new) (F.faults folder.new)) result }
 {
-    let entry = entry_of(alloc, read)?;
-    let files = start(alloc, folder, profile, entry.as_slice())?;
+    let entry = entry_candidates(alloc, read)?;
+    let files = load_from_entry(alloc, folder, profile, entry.as_slice())?;
     Ok(Package { files })
 }
 
-fn gathered<F: Folder>(
+fn gather_package<F: Folder>(
     alloc: Global,
     folder: &mut F,
     profile: &Profile,
 ) -> Result<Package, PackFault>
-    ensures stays { Stays (outside (F.held folder.old) (F.reads folder.old) (F.faults folder.old))
-        (outside (F.held folder.new) (F.reads folder.new) (F.faults folder.new)) }
-    ensures gathered { GatherAnswer profile.now
-        (outside (F.held folder.old) (F.reads folder.old) (F.faults folder.old))
-        (outside (F.held folder.new) (F.reads folder.new) (F.faults folder.new)) result }
+    ensures stays { Stays (folder_view (F.held folder.old) (F.reads folder.old) (F.faults folder.old))
+        (folder_view (F.held folder.new) (F.reads folder.new) (F.faults folder.new)) }
+    ensures answers { GatherAnswer profile.now
+        (folder_view (F.held folder.old) (F.reads folder.old) (F.faults folder.old))
+        (folder_view (F.held folder.new) (F.reads folder.new) (F.faults folder.new)) result }
 {
     match folder.read(alloc, MANIFEST, MOST_BYTES) {
-        Ok(read) => enter(alloc, folder, profile, read),
+        Ok(read) => load_with_manifest(alloc, folder, profile, read),
         Err(FolderFault::NoMemory) => Err(PackFault::NoMemory),
         Err(FolderFault::Failed) => Err(PackFault::FolderFailed(Text::of(alloc, MANIFEST)?)),
     }
@@ -166,11 +169,12 @@ fn gathered<F: Folder>(
 /// The package in a folder, from its `package.json` on (docs/WALK.md has the rule).
 ///
 /// `package.json` names the entry, or it is `index.js`. Files are numbered as they are found. Each is tested, its text
-/// (ECMA-262 5.1, 7), its tree (11 to 14) and its names, and then its relative requires are found in their order, each
-/// by its candidates. No path is read twice, none is outside the folder, and at most 1,048,576 bytes are asked for.
+/// (ECMA-262 5.1, 7), its tree (11 to 14) and its names, and then its relative requires are resolved in their order,
+/// each by its candidates. A read asks for at most 1,048,576 bytes.
 ///
-/// Each refusal but `NoMemory` comes exactly where the walk has it first. A read that fails ends the walk with its path,
-/// as `FolderFailed`, which comes only where the folder's count of faults rose.
+/// Each refusal but `NoMemory` comes exactly where the walk has it first. A read that fails ends the walk with its
+/// path, as `FolderFailed`, which comes only where the folder's count of faults rose. Of the reads of a folder that
+/// tells what it holds the number is proved, not the list; tests show the list.
 pub fn gather<F: Folder>(
     alloc: Global,
     folder: &mut F,
@@ -192,16 +196,17 @@ pub fn gather<F: Folder>(
 
     // What the walk has is answered, where no read failed.
     ensures answered { IfSome (F.held folder.old) (λ held. (outcome : Outcome) → Walk held profile.now None outcome
-        → Stood (F.faults folder.old) (F.faults folder.new) → IsUnlessMemory result outcome.result) }
+        → Stood (F.faults folder.old) (F.faults folder.new) → IsUnlessMemory PackFault.NoMemory result outcome.result) }
 
-    ensures fault { (path : Path) → result ≡ Err (PackFault.FolderFailed path)
+    ensures fault { (path : FilePath) → result ≡ Err (PackFault.FolderFailed path)
         → Rose (F.faults folder.old) (F.faults folder.new) }
 {
-    gathered(alloc, folder, profile)
+    gather_package(alloc, folder, profile)
 }
 
-/// The law of the walk: a folder that holds this has at most one outcome under a profile, whichever read fails, if one
-/// does.
+/// The law of the walk: whichever read fails, if one does, a folder that tells what it holds has one outcome under a
+/// profile, and no other.
 pub fn law_one_walk()
-    ensures { HasOneOutcome }
+    ensures at_most_one { HasOneOutcome }
+    ensures at_least_one { HasSomeOutcome }
 {}
