@@ -14,9 +14,9 @@ use Rattle.mdg_scope.specs.Resolution.{scopes}
 use Rattle.mdg_scope.specs.Names.{ScopedName}
 use Rattle.mdg_scope.specs.Collectors.{inside}
 use Rattle.mdg_scope.specs.Occurrences.{file_occurrences, given}
-use Rattle.mdg_lower.specs.Fitting.{FileFits}
-use Rattle.mdg_lower.specs.Walking.{functions_in}
-use Rattle.mdg_lower.proofs.BoundWords.{ParentWithin, Stands}
+use Rattle.mdg_lower.specs.BoundFiles.{FileFits}
+use Rattle.mdg_lower.specs.Nested.{functions_in}
+use Rattle.mdg_lower.proofs.BoundOccurrences.{ParentWithin, Stands}
 use Rattle.mdg_lower.proofs.BoundTrees.{adds_body}
 
 -- its parent's number is below this

@@ -28,17 +28,17 @@ fresh_all before (n ∷ ns) f =
     ∙ fresh_all (before ++ n ∷ []) ns f.1
     ∙ append_assoc before (n ∷ []) ns
 
-fresh_behind : (before names : List (List ℕ)) (n : List ℕ) → Fresh before names → has_name (before ++ names) n ≡ false → Fresh before (names ++ n ∷ [])
-fresh_behind before [] n f e = (subst (λ l. has_name l n ≡ false) (append-nil before) e, tt)
-fresh_behind before (m ∷ ms) n f e =
-    (f.0, fresh_behind (before ++ m ∷ []) ms n f.1 (subst (λ l. has_name l n ≡ false) (sym (append_assoc before (m ∷ []) ms)) e))
+fresh_after : (before names : List (List ℕ)) (n : List ℕ) → Fresh before names → has_name (before ++ names) n ≡ false → Fresh before (names ++ n ∷ [])
+fresh_after before [] n f e = (subst (λ l. has_name l n ≡ false) (append-nil before) e, tt)
+fresh_after before (m ∷ ms) n f e =
+    (f.0, fresh_after (before ++ m ∷ []) ms n f.1 (subst (λ l. has_name l n ≡ false) (sym (append_assoc before (m ∷ []) ms)) e))
 
 fresh_added : (names : List (List ℕ)) (n : List ℕ) → Fresh [] names → Fresh [] (add_name names n)
 fresh_added names n f = by (has_name names n) refl
   where
     by : (b : Bool) → has_name names n ≡ b → Fresh [] (if b then names else names ++ n ∷ [])
     by true e = f
-    by false e = fresh_behind [] names n f e
+    by false e = fresh_after [] names n f e
 
 fresh_names : (names more : List (List ℕ)) → Fresh [] names → Fresh [] (add_names names more)
 fresh_names names [] f = f

@@ -1,7 +1,7 @@
 -- Lines that grow by one code and then by another.
 use Rattle.std.proofs.Common.{◌≡◌, ◌+◌, List, ◌++◌, length, refl, sym, ap, ◌∙◌, append_assoc, append-nil, length-append}
 use Rattle.mdg_lower.specs.declared.draft.DraftLine.{DraftLine}
-use Rattle.mdg_lower.specs.Emitting.{Lines, ◌>>◌, nothing, Emits}
+use Rattle.mdg_lower.specs.Builder.{Lines, ◌>>◌, nothing, Emits}
 
 pub emits_then : (a b : Lines) (before middle now : List DraftLine) → Emits a before middle → Emits b middle now → Emits (a >> b) before now
 unfolding Emits ◌>>◌
@@ -16,6 +16,6 @@ emits_nothing l = sym (append-nil l)
 pub ruleset growth = (emits_then, emits_nothing)
 
 -- what was made so far, and the rest, make the whole
-pub step_on : (a b : Lines) (before now : List DraftLine) → Emits a before now → before ++ (a >> b) (length before) ≡ now ++ b (length now)
+pub emits_rest : (a b : Lines) (before now : List DraftLine) → Emits a before now → before ++ (a >> b) (length before) ≡ now ++ b (length now)
 unfolding Emits ◌>>◌
-step_on a b before now p = sym (emits_then a b before now (now ++ b (length now)) p refl)
+emits_rest a b before now p = sym (emits_then a b before now (now ++ b (length now)) p refl)

@@ -5,8 +5,8 @@ use Rattle.std.proofs.lemmas.List.Elements.{All-nil, All-cons}
 use Rattle.mdg_code.specs.Places.{EachAt, HasAt}
 use Rattle.mdg_lower.proofs.LayoutLists.{has_more}
 use Rattle.mdg_lower.specs.declared.draft.DraftLine.{DraftLine}
-use Rattle.mdg_lower.specs.Rooms.{room_of_draft, room_of_lines}
-use Rattle.mdg_lower.specs.Sound.{awaits, lands, ends, AreLanded, IsApartAt, EndWell}
+use Rattle.mdg_lower.specs.FrameSize.{size_for_draft, size_for_lines}
+use Rattle.mdg_lower.specs.WellFormed.{awaits, lands, ends, AreLanded, IsApartAt, EndWell}
 
 -- a line that awaits no land, before lines that are landed
 landed_cons : (line : DraftLine) (lines : List DraftLine) → awaits line.draft ≡ false → AreLanded lines → AreLanded (line ∷ lines)
@@ -26,23 +26,23 @@ apart_left [] other (suc k) apart = absurd apart
 apart_left (line ∷ one) other (suc zero) apart = apart
 apart_left (line ∷ one) other (suc (suc k)) apart = apart_left one other (suc k) apart
 
--- the site right behind landed lines is apart
+-- the site right after landed lines is apart
 apart_end : (lines : List DraftLine) → AreLanded lines → IsApartAt lines (length lines)
 apart_end [] landed = tt
 apart_end (line ∷ []) landed = landed
 apart_end (line ∷ next ∷ lines) landed = apart_end (next ∷ lines) landed.1
 
--- a site that is not the first and is apart stays so behind other lines
-apart_behind : (one other : List DraftLine) (k : ℕ) → IsApartAt other (suc k) → IsApartAt (one ++ other) (suc (length one + k))
-apart_behind [] other k apart = let same : suc k ≡ suc (0 + k) = omega arith in subst (IsApartAt other) same apart
-apart_behind (line ∷ one) other k apart =
+-- a site that is not the first and is apart stays so after other lines
+apart_after : (one other : List DraftLine) (k : ℕ) → IsApartAt other (suc k) → IsApartAt (one ++ other) (suc (length one + k))
+apart_after [] other k apart = let same : suc k ≡ suc (0 + k) = omega arith in subst (IsApartAt other) same apart
+apart_after (line ∷ one) other k apart =
     let next : suc (suc (length one + k)) ≡ suc (length (line ∷ one) + k) = omega arith in
-    subst (IsApartAt (line ∷ (one ++ other))) next (apart_behind one other k apart)
+    subst (IsApartAt (line ∷ (one ++ other))) next (apart_after one other k apart)
 
--- so is a site that is apart among the lines behind them
+-- so is a site that is apart among the lines after them
 pub apart_right : (one other : List DraftLine) (k : ℕ) → AreLanded one → IsApartAt other k → IsApartAt (one ++ other) (length one + k)
 apart_right one other zero landed apart = let same : length one ≡ length one + 0 = omega arith in subst (IsApartAt (one ++ other)) same (apart_left one other (length one) (apart_end one landed))
-apart_right one other (suc k) landed apart = let same : suc (length one + k) ≡ length one + suc k = omega arith in subst (IsApartAt (one ++ other)) same (apart_behind one other k apart)
+apart_right one other (suc k) landed apart = let same : suc (length one + k) ≡ length one + suc k = omega arith in subst (IsApartAt (one ++ other)) same (apart_after one other k apart)
 
 -- no line that awaits a land stands before a site that is apart
 pub apart_before : (lines : List DraftLine) (k : ℕ) → IsApartAt lines (suc k) → HasAt (λ line. awaits line.draft ≡ true) lines k → ⊥
@@ -50,15 +50,15 @@ apart_before [] k apart has = apart
 apart_before (line ∷ lines) zero apart has = true≢false (sym (has.1 line) ∙ apart)
 apart_before (line ∷ lines) (suc k) apart has = apart_before lines k apart (omega (arith, has.0), λ d. has.1 d)
 
--- behind each line that awaits a land there is one
-pub lands_behind : (lines : List DraftLine) → AreLanded lines
+-- after each line that awaits a land there is one
+pub lands_after : (lines : List DraftLine) → AreLanded lines
     → EachAt (λ site line. awaits line.draft ≡ true → HasAt (λ next. lands next.draft ≡ true) lines (site + 1)) lines
-lands_behind [] landed i d within = absurd (omega (arith, within))
-lands_behind (line ∷ []) landed zero d within = λ waits. absurd (true≢false (sym waits ∙ landed))
-lands_behind (line ∷ []) landed (suc i) d within = absurd (omega (arith, within))
-lands_behind (line ∷ next ∷ lines) landed zero d within = λ waits. (omega arith, λ e. landed.0 waits)
-lands_behind (line ∷ next ∷ lines) landed (suc i) d within = λ waits.
-    let rest : HasAt (λ other. lands other.draft ≡ true) (next ∷ lines) (i + 1) = lands_behind (next ∷ lines) landed.1 i d (omega (arith, within)) waits in
+lands_after [] landed i d within = absurd (omega (arith, within))
+lands_after (line ∷ []) landed zero d within = λ waits. absurd (true≢false (sym waits ∙ landed))
+lands_after (line ∷ []) landed (suc i) d within = absurd (omega (arith, within))
+lands_after (line ∷ next ∷ lines) landed zero d within = λ waits. (omega arith, λ e. landed.0 waits)
+lands_after (line ∷ next ∷ lines) landed (suc i) d within = λ waits.
+    let rest : HasAt (λ other. lands other.draft ≡ true) (next ∷ lines) (i + 1) = lands_after (next ∷ lines) landed.1 i d (omega (arith, within)) waits in
     let more : suc (i + 1) ≡ suc i + 1 = omega arith in
     subst (HasAt (λ other. lands other.draft ≡ true) (line ∷ next ∷ lines)) more (has_more (λ other. lands other.draft ≡ true) line (next ∷ lines) (i + 1) rest)
 
@@ -77,14 +77,14 @@ some_lines [] well = absurd well
 some_lines (line ∷ lines) well = omega arith
 
 -- there is at least the room that there was before
-pub room_above : (least : ℕ) (lines : List DraftLine) → least ≤ room_of_lines least lines
-room_above least [] = le_refl least
-room_above least (line ∷ lines) = le_trans (le-max_left least (room_of_draft line.draft)) (room_above (max least (room_of_draft line.draft)) lines)
+pub size_above : (least : ℕ) (lines : List DraftLine) → least ≤ size_for_lines least lines
+size_above least [] = le_refl least
+size_above least (line ∷ lines) = le_trans (le-max_left least (size_for_draft line.draft)) (size_above (max least (size_for_draft line.draft)) lines)
 
 -- there is room for each line
-pub rooms : (least : ℕ) (lines : List DraftLine) → All (λ line. room_of_draft line.draft ≤ room_of_lines least lines) lines
-rooms least [] = All-nil (λ (line : DraftLine). room_of_draft line.draft ≤ least)
-rooms least (line ∷ lines) =
-    All-cons (λ (one : DraftLine). room_of_draft one.draft ≤ room_of_lines least (line ∷ lines)) line lines
-    (le_trans (le-max_right least (room_of_draft line.draft)) (room_above (max least (room_of_draft line.draft)) lines))
-    (rooms (max least (room_of_draft line.draft)) lines)
+pub sizes : (least : ℕ) (lines : List DraftLine) → All (λ line. size_for_draft line.draft ≤ size_for_lines least lines) lines
+sizes least [] = All-nil (λ (line : DraftLine). size_for_draft line.draft ≤ least)
+sizes least (line ∷ lines) =
+    All-cons (λ (one : DraftLine). size_for_draft one.draft ≤ size_for_lines least (line ∷ lines)) line lines
+    (le_trans (le-max_right least (size_for_draft line.draft)) (size_above (max least (size_for_draft line.draft)) lines))
+    (sizes (max least (size_for_draft line.draft)) lines)

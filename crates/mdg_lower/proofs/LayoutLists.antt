@@ -14,7 +14,7 @@ rest_of P x xs all k d within = all (suc k) d (omega (arith, within))
 pub all_then : {X : Type 0} (P Q : X → Type 0) → ((x : X) → P x → Q x) → (xs : List X) → All P xs → All Q xs
 all_then P Q then xs all k d within = then (get_or xs k d) (all k d within)
 
--- what stands at a place stands one place on behind one more element
+-- what stands at a place stands one place on after one more element
 pub has_more : {X : Type 0} (P : X → Type 0) (x : X) (xs : List X) (i : ℕ) → HasAt P xs i → HasAt P (x ∷ xs) (suc i)
 has_more P x xs i has = (omega (arith, has.0), λ d. has.1 d)
 
@@ -26,7 +26,7 @@ has_left P (x ∷ xs) ys (suc i) has =
     let rest : HasAt P (xs ++ ys) i = has_left P xs ys i (omega (arith, has.0), λ d. has.1 d) in
     (omega (arith, rest.0), λ d. rest.1 d)
 
--- what stands at a place stands so many places on behind others
+-- what stands at a place stands so many places on after others
 pub has_right : {X : Type 0} (P : X → Type 0) (xs ys : List X) (i : ℕ) → HasAt P ys i → HasAt P (xs ++ ys) (length xs + i)
 has_right P [] ys i has = subst (HasAt P ys) (omega arith) has
 has_right P (x ∷ xs) ys i has =
@@ -34,7 +34,7 @@ has_right P (x ∷ xs) ys i has =
     let next : suc (length xs + i) ≡ length (x ∷ xs) + i = omega arith in
     subst (HasAt P (x ∷ (xs ++ ys))) next (omega (arith, rest.0), λ d. rest.1 d)
 
--- the last element stands behind the others
+-- the last element stands after the others
 pub has_seam : {X : Type 0} (P : X → Type 0) (xs : List X) (y : X) → P y → HasAt P (xs ++ y ∷ []) (length xs)
 has_seam P xs y p = subst (HasAt P (xs ++ y ∷ [])) (omega arith) (has_right P xs (y ∷ []) 0 (omega arith, λ d. p))
 
@@ -69,11 +69,11 @@ each_cons P x xs p each (suc i) d within = each i d (omega (arith, within))
 
 -- what holds at each place of both lists holds of the joined one
 pub each_append : {X : Type 0} (P : ℕ → X → Type 0) (xs ys : List X) → EachAt P xs → EachAt (λ j y. P (length xs + j) y) ys → EachAt P (xs ++ ys)
-each_append P [] ys before behind = λ j d within. subst (λ k. P k (get_or ys j d)) (omega arith) (behind j d within)
-each_append P (x ∷ xs) ys before behind =
+each_append P [] ys before beyond = λ j d within. subst (λ k. P k (get_or ys j d)) (omega arith) (beyond j d within)
+each_append P (x ∷ xs) ys before beyond =
     each_cons P x (xs ++ ys) (before 0 x (omega arith))
     (each_append (λ i y. P (suc i) y) xs ys (λ i d within. before (suc i) d (omega (arith, within)))
-    (λ j d within. let next : length (x ∷ xs) + j ≡ suc (length xs + j) = omega arith in subst (λ k. P k (get_or ys j d)) next (behind j d within)))
+    (λ j d within. let next : length (x ∷ xs) + j ≡ suc (length xs + j) = omega arith in subst (λ k. P k (get_or ys j d)) next (beyond j d within)))
 
 -- what follows at each place holds at each
 pub each_then : {X : Type 0} (P Q : ℕ → X → Type 0) → ((i : ℕ) (x : X) → P i x → Q i x) → (xs : List X) → EachAt P xs → EachAt Q xs

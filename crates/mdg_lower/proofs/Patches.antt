@@ -1,4 +1,4 @@
--- Lines whose branch is written after the lines behind it.
+-- Branches that are patched once the lines after them stand.
 use Rattle.std.proofs.Common.{◌≡◌, ℕ, ◌+◌, List, [], ◌∷◌, ◌++◌, length, sym, ap, ◌∙◌, arith, append_assoc, length-append}
 use Rattle.std.specs.Prelude.{slice_set}
 use Rattle.std.proofs.Math.Seq.{set-append_seam}
@@ -6,14 +6,15 @@ use Rattle.mdg_tree.specs.declared.tree.At.{At}
 use Rattle.mdg_lower.specs.declared.draft.Draft.{Draft}
 use Rattle.mdg_lower.specs.declared.draft.DraftLine.{DraftLine}
 use Rattle.mdg_lower.specs.declared.scope.Scope.{Scope}
-use Rattle.mdg_lower.specs.Emitting.{Lines, ◌>>◌, one, line_of, Emits}
-use Rattle.mdg_lower.specs.Rows.{branch, guarded, either}
+use Rattle.mdg_lower.specs.Builder.{Lines, ◌>>◌, one, line_of, Emits}
+use Rattle.mdg_lower.specs.Labels.{branch}
+use Rattle.mdg_lower.specs.Operators.{emit_optional, either}
 
--- A line that was held, the part behind it, and then the branch in its place.
+-- A branch that was reserved, the part after it, and then the branch in its place.
 pub guarded_written : (scope : Scope) (at : At) (free : Draft) (part : Lines) (before held after now : List DraftLine) (from : ℕ)
     → Emits (one scope at free) before held → Emits part held after → from ≡ length before
-    → now ≡ slice_set after from (line_of scope at (branch (from + 1) (length after))) → Emits (guarded scope at part) before now
-unfolding Emits guarded one ◌>>◌
+    → now ≡ slice_set after from (line_of scope at (branch (from + 1) (length after))) → Emits (emit_optional scope at part) before now
+unfolding Emits emit_optional one ◌>>◌
 guarded_written scope at free part before held after now from h p n e =
     let x = line_of scope at free in
     let y = line_of scope at (branch (from + 1) (length after)) in
@@ -27,7 +28,7 @@ guarded_written scope at free part before held after now from h p n e =
 
 pub ruleset patches = (guarded_written)
 
--- Two lines that were held, a part behind each, and then the branch and the jump in their places.
+-- Two branches that were reserved, a part after each, and then the branch and the jump in their places.
 pub either_written : (scope : Scope) (at : At) (free : Draft) (chosen otherwise : Lines) (l0 l1 l2 l3 l4 l5 now : List DraftLine) (from middle end first second : ℕ)
     → from ≡ length l0 → Emits (one scope at free) l0 l1 → Emits chosen l1 l2 → middle ≡ length l2 → Emits (one scope at free) l2 l3 → Emits otherwise l3 l4
     → end ≡ length l4 → first ≡ from + 1 → second ≡ middle + 1

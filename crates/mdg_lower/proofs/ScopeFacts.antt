@@ -1,4 +1,4 @@
--- What names, words and calls of `require` stand for is in range in the scopes of files and their functions.
+-- What names, keywords and calls of `require` stand for is in range in the scopes of files and their functions.
 use Rattle.std.proofs.Common.{◌≡◌, ℕ, zero, suc, ◌+◌, ◌<◌, ◌≤◌, ◌==◌, Bool, true, false, List, [], ◌∷◌, ◌++◌, map, length, All, IfSome, Option, Some, None, slice_get, get_or, bytes_eq, codes, refl, arith, length-append, if◌then◌else◌}
 use Rattle.std.specs.List.{position}
 use Rattle.std.proofs.lemmas.List.Elements.{All-nil, All-cons, All-map}
@@ -16,16 +16,17 @@ use Rattle.mdg_scope.specs.declared.bound.Goal.TheVariants as goal
 use Rattle.mdg_scope.specs.declared.bound.Require.{Require}
 use Rattle.mdg_scope.specs.Resolution.{globals_from}
 use Rattle.mdg_scope.specs.Names.{has_name, add_name, place_of}
-use Rattle.mdg_lower.specs.declared.scope.Frame.{Frame}
+use Rattle.mdg_lower.specs.declared.scope.Bindings.{Bindings}
 use Rattle.mdg_lower.specs.declared.scope.Meaning.{Meaning}
 use Rattle.mdg_lower.specs.declared.scope.Meaning.TheVariants as m
-use Rattle.mdg_lower.specs.declared.scope.Wanted.{Wanted}
+use Rattle.mdg_lower.specs.declared.scope.Dependency.{Dependency}
 use Rattle.mdg_lower.specs.Columns.{add_names}
 use Rattle.mdg_lower.specs.Offsets.{has_offset, add_offset, add_offsets, place_of_offset}
-use Rattle.mdg_lower.specs.Entering.{frame_of, frames_from, cells_of, wanted_file, wanted_goal, wanted_of, file_scope, entered}
-use Rattle.mdg_lower.specs.Filing.{in_function}
-use Rattle.mdg_lower.specs.Naming.{Name, cell_with, cell_in, local_with, local_in, or_else, is_literal, outside_by, frame_at, outside, bound_by, meaning_by, meaning, function_number, function_at, wanted_by, wanted_at}
-use Rattle.mdg_lower.specs.Sound.{Counts, IsMeaningThere, IsWantedThere, ScopeFits}
+use Rattle.mdg_lower.specs.Environment.{bindings_of, bindings_from, cells_of, dependency_file, dependency_goal, dependency_of, file_scope, entered}
+use Rattle.mdg_lower.specs.Tables.{in_function}
+use Rattle.mdg_lower.specs.Lookup.{Name, cell_with, cell_in, local_with, local_in, or_else, enclosing_by, bindings_at, enclosing_cell, bound_by, meaning_by, meaning, function_number, function_at, dependency_by, dependency_at}
+use Rattle.mdg_scope.specs.Resolution.{is_literal}
+use Rattle.mdg_lower.specs.WellFormed.{Counts, IsMeaningThere, IsDependencyThere, ScopeFits}
 use Rattle.mdg_lower.proofs.LayoutLists.{first_of, rest_of}
 
 -- names that are added each once are no more than the names
@@ -67,16 +68,16 @@ place_within p xs x = by (position p xs) refl
     by (Some i) is = (position-Some p xs i x is).0
 
 -- the cells of the frame are in range
-abbrev pub IsFrameThere : Counts → Frame → Type 0
-IsFrameThere n frame = frame.first_cell + length frame.cells ≤ n.cells
+abbrev pub AreBindingsThere : Counts → Bindings → Type 0
+AreBindingsThere n bindings = bindings.first_cell + length bindings.cells ≤ n.cells
 
 -- the cells of functions that are numbered through are in range
-pub frames_there : (n : Counts) (cell : ℕ) (fs : List BoundFunction) → cell + cells_of fs ≤ n.cells → All (IsFrameThere n) (frames_from cell fs)
-frames_there n cell [] within = All-nil (IsFrameThere n)
-frames_there n cell (f ∷ fs) within =
+pub all_bindings_there : (n : Counts) (cell : ℕ) (fs : List BoundFunction) → cell + cells_of fs ≤ n.cells → All (AreBindingsThere n) (bindings_from cell fs)
+all_bindings_there n cell [] within = All-nil (AreBindingsThere n)
+all_bindings_there n cell (f ∷ fs) within =
     let few : length (add_names [] f.cells) ≤ length f.cells = omega (arith, names_within [] f.cells) in
-    All-cons (IsFrameThere n) (frame_of cell f) (frames_from (cell + length f.cells) fs) (omega (arith, few, within))
-    (frames_there n (cell + length f.cells) fs (omega (arith, within)))
+    All-cons (AreBindingsThere n) (bindings_of cell f) (bindings_from (cell + length f.cells) fs) (omega (arith, few, within))
+    (all_bindings_there n (cell + length f.cells) fs (omega (arith, within)))
 
 -- what holds of either, where there is one, holds of the first that there is
 else_there : (P : Meaning → Type 0) (one other : Option Meaning) → IfSome one P → IfSome other P → IfSome (or_else one other) P
@@ -84,47 +85,47 @@ else_there P None other a b = b
 else_there P (Some meaning) other a b = a
 
 -- the cell of a name is in range
-cell_there : (n : Counts) (frame : Frame) (name : Name) → IsFrameThere n frame → IfSome (cell_in frame name) (IsMeaningThere n)
-cell_there n frame name there = by (place_of frame.cells name) (place_within (bytes_eq name) frame.cells name)
+cell_there : (n : Counts) (bindings : Bindings) (name : Name) → AreBindingsThere n bindings → IfSome (cell_in bindings name) (IsMeaningThere n)
+cell_there n bindings name there = by (place_of bindings.cells name) (place_within (bytes_eq name) bindings.cells name)
   where
-    by : (o : Option ℕ) → IfSome o (λ i. i < length frame.cells) → IfSome (cell_with frame name o) (IsMeaningThere n)
+    by : (o : Option ℕ) → IfSome o (λ i. i < length bindings.cells) → IfSome (cell_with bindings name o) (IsMeaningThere n)
     by None within = tt
     by (Some i) within = omega (arith, within, there)
 
 -- so is a local, which has no number of the package
-local_there : (n : Counts) (frame : Frame) (name : Name) → IfSome (local_in frame name) (IsMeaningThere n)
-local_there n frame name = by (place_of frame.locals name)
+local_there : (n : Counts) (bindings : Bindings) (name : Name) → IfSome (local_in bindings name) (IsMeaningThere n)
+local_there n bindings name = by (place_of bindings.locals name)
   where
-    by : (o : Option ℕ) → IfSome (local_with frame name o) (IsMeaningThere n)
+    by : (o : Option ℕ) → IfSome (local_with bindings name o) (IsMeaningThere n)
     by None = tt
     by (Some i) = tt
 
 -- a function around has its cells in range
-frame_there : (n : Counts) (frames : List Frame) (function : Option ℕ) → All (IsFrameThere n) frames → IfSome (frame_at frames function) (IsFrameThere n)
-frame_there n frames None there = tt
-frame_there n frames (Some function) there = found_there (IsFrameThere n) frames function there
+bindings_there : (n : Counts) (all_bindings : List Bindings) (function : Option ℕ) → All (AreBindingsThere n) all_bindings → IfSome (bindings_at all_bindings function) (AreBindingsThere n)
+bindings_there n all_bindings None there = tt
+bindings_there n all_bindings (Some function) there = found_there (AreBindingsThere n) all_bindings function there
 
 -- so is what a function around or one further out gives
-around_there : (n : Counts) (name : Name) (o : Option Frame) (further : Option ℕ → Option Meaning) → IfSome o (IsFrameThere n)
-    → ((parent : Option ℕ) → IfSome (further parent) (IsMeaningThere n)) → IfSome (outside_by o name further) (IsMeaningThere n)
+around_there : (n : Counts) (name : Name) (o : Option Bindings) (further : Option ℕ → Option Meaning) → IfSome o (AreBindingsThere n)
+    → ((parent : Option ℕ) → IfSome (further parent) (IsMeaningThere n)) → IfSome (enclosing_by o name further) (IsMeaningThere n)
 around_there n name None further there more = tt
-around_there n name (Some frame) further there more = else_there (IsMeaningThere n) (cell_in frame name) (further frame.parent) (cell_there n frame name there) (more frame.parent)
+around_there n name (Some bindings) further there more = else_there (IsMeaningThere n) (cell_in bindings name) (further bindings.parent) (cell_there n bindings name there) (more bindings.parent)
 
 -- so is what the functions around give
-outside_there : (n : Counts) (frames : List Frame) (name : Name) → All (IsFrameThere n) frames → (steps : ℕ) (function : Option ℕ) → IfSome (outside frames steps function name) (IsMeaningThere n)
-unfolding outside
-outside_there n frames name there zero function = tt
-outside_there n frames name there (suc steps) function =
-    around_there n name (frame_at frames function) (λ parent. outside frames steps parent name) (frame_there n frames function there)
-    (λ parent. outside_there n frames name there steps parent)
+enclosing_there : (n : Counts) (all_bindings : List Bindings) (name : Name) → All (AreBindingsThere n) all_bindings → (steps : ℕ) (function : Option ℕ) → IfSome (enclosing_cell all_bindings steps function name) (IsMeaningThere n)
+unfolding enclosing_cell
+enclosing_there n all_bindings name there zero function = tt
+enclosing_there n all_bindings name there (suc steps) function =
+    around_there n name (bindings_at all_bindings function) (λ parent. enclosing_cell all_bindings steps parent name) (bindings_there n all_bindings function there)
+    (λ parent. enclosing_there n all_bindings name there steps parent)
 
 -- so is what any binding gives
-bound_there : (n : Counts) (frames : List Frame) (name : Name) → All (IsFrameThere n) frames → (o : Option Frame) → IfSome o (IsFrameThere n) → IfSome (bound_by frames o name) (IsMeaningThere n)
-bound_there n frames name there None here = tt
-bound_there n frames name there (Some frame) here =
-    else_there (IsMeaningThere n) (cell_in frame name) (or_else (local_in frame name) (outside frames (length frames) frame.parent name)) (cell_there n frame name here)
-    (else_there (IsMeaningThere n) (local_in frame name) (outside frames (length frames) frame.parent name) (local_there n frame name)
-    (outside_there n frames name there (length frames) frame.parent))
+bound_there : (n : Counts) (all_bindings : List Bindings) (name : Name) → All (AreBindingsThere n) all_bindings → (o : Option Bindings) → IfSome o (AreBindingsThere n) → IfSome (bound_by all_bindings o name) (IsMeaningThere n)
+bound_there n all_bindings name there None here = tt
+bound_there n all_bindings name there (Some bindings) here =
+    else_there (IsMeaningThere n) (cell_in bindings name) (or_else (local_in bindings name) (enclosing_cell all_bindings (length all_bindings) bindings.parent name)) (cell_there n bindings name here)
+    (else_there (IsMeaningThere n) (local_in bindings name) (enclosing_cell all_bindings (length all_bindings) bindings.parent name) (local_there n bindings name)
+    (enclosing_there n all_bindings name there (length all_bindings) bindings.parent))
 
 -- a name that nothing binds names no cell
 free_there : (n : Counts) (a b c : Bool) → IsMeaningThere n (if a then m.Require else (if b then m.Literal else (if c then m.Global else m.Nothing)))
@@ -140,22 +141,22 @@ meant_there n globals name (Some meaning) there = there
 
 -- a file that is asked for has a module object
 asked_there : (n : Counts) (modules : List CellId) (text : Name) (file : FileId) → length modules ≤ n.files → All (λ (cell : CellId). cell.0 < n.cells) modules
-    → IsWantedThere n (wanted_file text file (slice_get modules file.0))
+    → IsDependencyThere n (dependency_file text file (slice_get modules file.0))
 asked_there n modules text file few there = by (slice_get modules file.0) refl (found_there (λ (cell : CellId). cell.0 < n.cells) modules file.0 there)
   where
-    by : (o : Option CellId) → slice_get modules file.0 ≡ o → IfSome o (λ cell. cell.0 < n.cells) → IsWantedThere n (wanted_file text file o)
+    by : (o : Option CellId) → slice_get modules file.0 ≡ o → IfSome o (λ cell. cell.0 < n.cells) → IsDependencyThere n (dependency_file text file o)
     by None is within = tt
     by (Some cell) is within = (omega (arith, few, slice_get_within modules file.0 cell is), within)
 
 -- what is asked for is there
-goal_there : (n : Counts) (modules : List CellId) (text : Name) (g : Goal) → length modules ≤ n.files → All (λ (cell : CellId). cell.0 < n.cells) modules → IsWantedThere n (wanted_goal modules text g)
+goal_there : (n : Counts) (modules : List CellId) (text : Name) (g : Goal) → length modules ≤ n.files → All (λ (cell : CellId). cell.0 < n.cells) modules → IsDependencyThere n (dependency_goal modules text g)
 goal_there n modules text goal.Bare few there = tt
 goal_there n modules text goal.Path few there = tt
 goal_there n modules text (goal.File file) few there = asked_there n modules text file few there
 
 -- so is all that is asked for
-wants_there : (n : Counts) (modules : List CellId) (rs : List Require) → length modules ≤ n.files → All (λ (cell : CellId). cell.0 < n.cells) modules → All (IsWantedThere n) (map (wanted_of modules) rs)
-wants_there n modules rs few there = All-map (IsWantedThere n) (wanted_of modules) rs (λ k r within. let r : Require = get_or rs k r in goal_there n modules r.text r.goal few there)
+all_dependencies_there : (n : Counts) (modules : List CellId) (rs : List Require) → length modules ≤ n.files → All (λ (cell : CellId). cell.0 < n.cells) modules → All (IsDependencyThere n) (map (dependency_of modules) rs)
+all_dependencies_there n modules rs few there = All-map (IsDependencyThere n) (dependency_of modules) rs (λ k r within. let r : Require = get_or rs k r in goal_there n modules r.text r.goal few there)
 
 -- the number of a function of the file is in range
 number_there : (n : Counts) (first count : ℕ) (o : Option ℕ) → 0 < count → first + count ≤ n.functions → IfSome o (λ i. i < count) → function_number first o < n.functions
@@ -163,29 +164,29 @@ number_there n first count None some few within = omega (arith, some, few)
 number_there n first count (Some i) some few within = omega (arith, few, within)
 
 -- what a call asks for is there, if it is known
-want_there : (n : Counts) (wanted : List Wanted) (o : Option ℕ) → All (IsWantedThere n) wanted → IfSome (wanted_by wanted o) (IsWantedThere n)
-want_there n wanted None there = tt
-want_there n wanted (Some i) there = found_there (IsWantedThere n) wanted i there
+dependency_there : (n : Counts) (dependencies : List Dependency) (o : Option ℕ) → All (IsDependencyThere n) dependencies → IfSome (dependency_by dependencies o) (IsDependencyThere n)
+dependency_there n dependencies None there = tt
+dependency_there n dependencies (Some i) there = found_there (IsDependencyThere n) dependencies i there
 
 -- the scope of a function of a file
 pub scope_fits : (n : Counts) (modules : List CellId) (entries : List Entry) (file function cell : ℕ) (b : Bound) (number : ℕ) (f : BoundFunction) (body : List Stmt)
     → 0 < length b.functions → function + length b.functions ≤ n.functions → cell + 1 + cells_of b.functions ≤ n.cells
     → length modules ≤ n.files → All (λ (one : CellId). one.0 < n.cells) modules
     → ScopeFits n (in_function (file_scope modules entries file function cell b) number f body)
-unfolding meaning function_at wanted_at entered file_scope
+unfolding meaning function_at dependency_at entered file_scope
 scope_fits n modules entries file function cell b number f body some functions cells few there = record {
-  meanings_there = λ name. meant_there n (globals_from [] entries) name (bound_by frames (slice_get frames number) name)
-      (bound_there n frames name framed (slice_get frames number) (found_there (IsFrameThere n) frames number framed));
+  meanings_there = λ name. meant_there n (globals_from [] entries) name (bound_by all_bindings (slice_get all_bindings number) name)
+      (bound_there n all_bindings name bindings_fit (slice_get all_bindings number) (found_there (AreBindingsThere n) all_bindings number bindings_fit));
   functions_there = λ offset. number_there n function (length b.functions) (place_of_offset offsets offset) some functions (placed offset);
-  wanted_there = λ offset. want_there n (map (wanted_of modules) b.required) (place_of_offset (add_offsets [] (map (λ r. r.offset) b.required)) offset) (wants_there n modules b.required few there);
+  dependencies_there = λ offset. dependency_there n (map (dependency_of modules) b.required) (place_of_offset (add_offsets [] (map (λ r. r.offset) b.required)) offset) (all_dependencies_there n modules b.required few there);
   module_there = omega (arith, cells);
 }
   where
-    frames : List Frame
-    frames = frames_from (cell + 1) b.functions
+    all_bindings : List Bindings
+    all_bindings = bindings_from (cell + 1) b.functions
 
-    framed : All (IsFrameThere n) frames
-    framed = frames_there n (cell + 1) b.functions cells
+    bindings_fit : All (AreBindingsThere n) all_bindings
+    bindings_fit = all_bindings_there n (cell + 1) b.functions cells
 
     offsets : List ℕ
     offsets = add_offsets [] (map (λ f. f.offset) b.functions)

@@ -30,7 +30,7 @@ is_listed name = not (is_plain name) || is_small name
 
 -- the property name of a draft
 abbrev pub name_in : Draft → List (List ℕ)
-name_in (d.Settled statement) = []
+name_in (d.Complete statement) = []
 name_in (d.Get into of name) = name ∷ []
 name_in (d.Set of name value) = name ∷ []
 name_in (d.Shared into home name) = []

@@ -9,7 +9,7 @@ has_offset offsets offset = list_any (λ other. offset == other) offsets
 abbrev pub place_of_offset : List ℕ → ℕ → Option ℕ
 place_of_offset offsets offset = position (λ other. offset == other) offsets
 
--- them, and the offset behind them unless it is among them
+-- them, and the offset after them unless it is among them
 abbrev pub add_offset : List ℕ → ℕ → List ℕ
 add_offset offsets offset = if has_offset offsets offset then offsets else offsets ++ offset ∷ []
 

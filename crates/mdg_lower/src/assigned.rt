@@ -1,13 +1,15 @@
-//! Which names an expression assigns, and which bases can stay where they are.
+//! Which names an expression assigns, and which local stands for an expression until it is used.
 
 ghost use Rattle.std.specs.Prelude.{◌≡◌, ◌||◌, ◌++◌, IfOk, map};
-ghost use Rattle.mdg_lower.specs.Laters.{listed};
-ghost use Rattle.mdg_lower.specs.Lowered as lowered;
-ghost use Rattle.mdg_lower.specs.Rows as rows;
+ghost use Rattle.mdg_lower.specs.Assigned.{listed};
+ghost use Rattle.mdg_lower.specs.Forms as forms;
+ghost use Rattle.mdg_lower.specs.Trees as trees;
+ghost use Rattle.mdg_lower.specs.Operands as operands;
+ghost use Rattle.mdg_lower.specs.Access as access;
 
-use crate::naming::{local_of, meaning};
+use crate::lookup::{local_of, meaning};
+use crate::reference::{Reference, name_of, reference_of};
 use crate::scope::Scope;
-use crate::shape::{Shape, name_of, shape_of};
 use mdg_base::{Local, NoMemory};
 use mdg_tree::{Expr, Property};
 
@@ -19,9 +21,9 @@ fn or(one: bool, other: bool) -> bool
 
 /// Whether the expression assigns the name, nested functions left out.
 #[cycle(assigned)]
-#[tactic(auto, using(crate::proofs::Equations::assigned))]
+#[tactic(auto, using(crate::proofs::FormRulesets::assigned))]
 fn assigns(tree: &Expr, name: &str) -> bool
-    ensures { result ≡ lowered.assigns_of tree.now name.now }
+    ensures { result ≡ trees.assigns_of tree.now name.now }
 {
     match tree {
         Expr::Comma(_, all) | Expr::Array(_, all) => any_assigns(all.as_slice(), name),
@@ -62,19 +64,19 @@ fn assigns(tree: &Expr, name: &str) -> bool
 /// Whether an assignment to the target assigns the name.
 #[cycle(assigned)]
 fn assigned_by(target: &Expr, name: &str) -> bool
-    ensures { result ≡ lowered.assigned_by (lowered.root_of target.now) name.now }
+    ensures { result ≡ forms.assigned_by (trees.reference_of target.now) name.now }
 {
-    match shape_of(target) {
-        Shape::Named(_, assigned) => assigned.as_str() == name,
-        Shape::Member(object, _) => assigns(object, name),
-        Shape::Keyed(object, key) => or(assigns(object, name), assigns(key, name)),
-        Shape::Other => false,
+    match reference_of(target) {
+        Reference::Named(_, assigned) => assigned.as_str() == name,
+        Reference::Member(object, _) => assigns(object, name),
+        Reference::Keyed(object, key) => or(assigns(object, name), assigns(key, name)),
+        Reference::Other => false,
     }
 }
 
 #[cycle(assigned)]
 fn any_assigns(all: &[Expr], name: &str) -> bool
-    ensures { result ≡ rows.any_assigns (lowered.plains_of all.now) name.now }
+    ensures { result ≡ operands.any_assigns (trees.operands_of all.now) name.now }
 {
     for one in all {
         if assigns(one, name) {
@@ -85,9 +87,9 @@ fn any_assigns(all: &[Expr], name: &str) -> bool
 }
 
 #[cycle(assigned)]
-#[tactic(auto, using(crate::proofs::Equations::properties))]
+#[tactic(auto, using(crate::proofs::FormRulesets::properties))]
 fn any_property_assigns(all: &[Property], name: &str) -> bool
-    ensures { result ≡ rows.any_property_assigns (map lowered.property_part all.now) name.now }
+    ensures { result ≡ operands.any_property_assigns (map trees.property_part all.now) name.now }
 {
     for one in all {
         if assigns(&one.value, name) {
@@ -98,7 +100,7 @@ fn any_property_assigns(all: &[Property], name: &str) -> bool
 }
 
 fn maybe_assigns(tree: Option<&Expr>, name: &str) -> bool
-    ensures { result ≡ rows.any_assigns (listed tree.entry) name.now }
+    ensures { result ≡ operands.any_assigns (listed tree.entry) name.now }
 {
     match tree {
         Some(tree) => assigns(tree, name),
@@ -106,29 +108,30 @@ fn maybe_assigns(tree: Option<&Expr>, name: &str) -> bool
     }
 }
 
-fn kept_if(later: bool, local: Option<Local>) -> Option<Local>
-    ensures { result ≡ rows.kept_if later local }
+fn stable_if(later: bool, local: Option<Local>) -> Option<Local>
+    ensures { result ≡ operands.stable_if later local }
 {
     if later { None } else { local }
 }
 
 /// The local that stands for the expression itself, where no later part assigns it.
-#[tactic(auto, using(crate::proofs::LaterLemmas::laters), unfolding(crate::specs::Rows::kept))]
-pub fn kept<'a>(
+#[tactic(auto, using(crate::proofs::AssignedLemmas::laters), unfolding(crate::specs::Access::stable_local))]
+pub fn stable_local<'a>(
     scope: &Scope<'a>,
     tree: &Expr,
     first: Option<&Expr>,
     second: Option<&Expr>,
     rest: &[Expr],
 ) -> Result<Option<Local>, NoMemory>
-    ensures { IfOk result (λ k. k ≡ rows.kept scope.now (lowered.plain_of tree.now) (listed first.entry ++ (listed second.entry ++ lowered.plains_of rest.now))) }
+    ensures { IfOk result (λ k. k ≡ access.stable_local scope.now (trees.operand_of tree.now)
+        (listed first.entry ++ (listed second.entry ++ trees.operands_of rest.now))) }
 {
     match name_of(tree) {
         Some(name) => {
             let name = name.as_str();
             let one = or(maybe_assigns(first, name), maybe_assigns(second, name));
             let later = or(one, any_assigns(rest, name));
-            Ok(kept_if(later, local_of(meaning(scope, name)?)))
+            Ok(stable_if(later, local_of(meaning(scope, name)?)))
         }
         None => Ok(None),
     }

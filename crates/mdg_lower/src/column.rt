@@ -101,7 +101,7 @@ impl<'a> ColumnTable<'a> {
     }
 }
 
-/// Puts the name behind the others, unless it is there. From their number the answer is the new number.
+/// Puts the name after the others, unless it is there. From their number the answer is the new number.
 fn add_counted<'a>(names: &mut Names<'a>, count: u32, name: &'a str) -> Result<u32, NoMemory>
     ensures names { OnOk result (names.new ≡ add_name names.old name.now) }
     ensures count { IfOk result (λ n. count ≡ length names.old → n ≡ length names.new) }
@@ -119,7 +119,8 @@ fn put_name<'a>(
     alloc: Global,
     name: &'a str,
 ) -> Result<(), NoMemory>
-    ensures table { OnOk result (table.new ≡ columns_of.add_names table.old (filter columns_of.is_listed (name.now ∷ []))) }
+    ensures table { OnOk result (table.new ≡ columns_of.add_names table.old
+        (filter columns_of.is_listed (name.now ∷ []))) }
     ensures columns { OnOk result (table.old ≡ columns.old → table.new ≡ columns.new) }
 {
     if is_listed(name) && table.add(name)? {
@@ -134,14 +135,15 @@ fn put_draft<'a>(
     alloc: Global,
     draft: &'a Draft,
 ) -> Result<(), NoMemory>
-    ensures table { OnOk result (table.new ≡ columns_of.add_names table.old (filter columns_of.is_listed (columns_of.name_in draft.now))) }
+    ensures table { OnOk result (table.new ≡ columns_of.add_names table.old
+        (filter columns_of.is_listed (columns_of.name_in draft.now))) }
     ensures columns { OnOk result (table.old ≡ columns.old → table.new ≡ columns.new) }
 {
     match draft {
         Draft::Get { name, .. } | Draft::Set { name, .. } => {
             put_name(table, columns, alloc, name.as_str())
         }
-        Draft::Settled(_) | Draft::Shared { .. } | Draft::Branch { .. } => Ok(()),
+        Draft::Complete(_) | Draft::Shared { .. } | Draft::Branch { .. } => Ok(()),
     }
 }
 

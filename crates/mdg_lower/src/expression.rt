@@ -7,19 +7,20 @@ mod operand;
 mod operation;
 
 ghost use Rattle.std.specs.Prelude.{◌≡◌, ◌+◌, [], ◌∷◌, Some, None, OnOk, IfOk, map};
-ghost use Rattle.mdg_lower.specs.Emitting.{Emits};
-ghost use Rattle.mdg_lower.specs.Lowered as lowered;
-ghost use Rattle.mdg_lower.specs.Rows as rows;
+ghost use Rattle.mdg_lower.specs.Builder.{Emits};
+ghost use Rattle.mdg_lower.specs.Forms as forms;
+ghost use Rattle.mdg_lower.specs.Trees as trees;
+ghost use Rattle.mdg_lower.specs.Instructions as instructions;
 
 use crate::draft::DraftLine;
 use crate::expression::access::{call, index, member, plain_call};
 use crate::expression::assignment::{assignment, postfix, prefix};
 use crate::expression::list::{array, comma, initialiser};
-pub use crate::expression::operand::{base, key_in};
+pub use crate::expression::operand::{lower_base, lower_key};
 use crate::expression::operation::{binary, conditional, unary};
-use crate::piece::{any_primitive, function_value, literal, load};
+use crate::instruction::{any_primitive, function_value, literal, load_name};
+use crate::reference::{keyword_at, numeral_text};
 use crate::scope::Scope;
-use crate::shape::{numeral_text, word_of};
 use mdg_base::{NoMemory, Text};
 use mdg_tree::{At, Expr};
 use std::alloc::Global;
@@ -31,30 +32,32 @@ fn numeral<'a>(
     alloc: Global,
     at: At,
     text: &Text,
-    d: u32,
+    dest: u32,
 ) -> Result<(), NoMemory>
-    ensures { OnOk result (Emits (rows.literal scope.now at (lowered.numeral_text text.now) d) lines.old.items lines.new.items) }
+    ensures { OnOk result (Emits
+        (instructions.literal scope.now at (forms.numeral_text text.now) dest)
+        lines.old.items lines.new.items) }
 {
     match numeral_text(text) {
-        Some(text) => literal(lines, scope, alloc, at, text.as_str(), d),
-        None => any_primitive(lines, scope, at, d),
+        Some(text) => literal(lines, scope, alloc, at, text.as_str(), dest),
+        None => any_primitive(lines, scope, at, dest),
     }
 }
 
 /// The lines that leave the value of the expression in a temporary and use no lower one.
 #[cycle(expression)]
-#[tactic(auto, using(crate::proofs::Equations::values))]
+#[tactic(auto, using(crate::proofs::FormRulesets::values))]
 pub fn value<'a>(
     lines: &mut Vec<DraftLine>,
     scope: &Scope<'a>,
     alloc: Global,
     tree: &Expr,
-    d: u32,
+    dest: u32,
 ) -> Result<(), NoMemory>
-    ensures { OnOk result (Emits (lowered.value_of tree.now scope.now d) lines.old.items lines.new.items) }
+    ensures { OnOk result (Emits (trees.value_of tree.now scope.now dest) lines.old.items lines.new.items) }
 {
     match tree {
-        Expr::Comma(_, all) => comma(lines, scope, alloc, all.as_slice(), d),
+        Expr::Comma(_, all) => comma(lines, scope, alloc, all.as_slice(), dest),
         Expr::Assign(at, operator, target, assigned) => {
             assignment(
                 lines,
@@ -64,7 +67,7 @@ pub fn value<'a>(
                 *operator,
                 target.get(),
                 assigned.get(),
-                d,
+                dest,
             )
         }
         Expr::Conditional(at, test, chosen, otherwise) => {
@@ -76,7 +79,7 @@ pub fn value<'a>(
                 test.get(),
                 chosen.get(),
                 otherwise.get(),
-                d,
+                dest,
             )
         }
         Expr::Binary(at, operator, left, right) => {
@@ -88,7 +91,7 @@ pub fn value<'a>(
                 *operator,
                 left.get(),
                 right.get(),
-                d,
+                dest,
             )
         }
         Expr::Unary(at, operator, operand) => unary(
@@ -98,13 +101,13 @@ pub fn value<'a>(
             *at,
             *operator,
             operand.get(),
-            d,
+            dest,
         ),
-        Expr::Prefix(at, _, target) => prefix(lines, scope, alloc, *at, target.get(), d),
-        Expr::Postfix(at, _, target) => postfix(lines, scope, alloc, *at, target.get(), d),
-        Expr::New(at, callee) => plain_call(lines, scope, alloc, *at, callee.get(), &[], d),
+        Expr::Prefix(at, _, target) => prefix(lines, scope, alloc, *at, target.get(), dest),
+        Expr::Postfix(at, _, target) => postfix(lines, scope, alloc, *at, target.get(), dest),
+        Expr::New(at, callee) => plain_call(lines, scope, alloc, *at, callee.get(), &[], dest),
         Expr::NewWithArguments(at, callee, all) => {
-            plain_call(lines, scope, alloc, *at, callee.get(), all.as_slice(), d)
+            plain_call(lines, scope, alloc, *at, callee.get(), all.as_slice(), dest)
         }
         Expr::Call(at, callee, all) => call(
             lines,
@@ -113,9 +116,17 @@ pub fn value<'a>(
             *at,
             callee.get(),
             all.as_slice(),
-            d,
+            dest,
         ),
-        Expr::Index(at, object, key) => index(lines, scope, alloc, *at, object.get(), key.get(), d),
+        Expr::Index(at, object, key) => index(
+            lines,
+            scope,
+            alloc,
+            *at,
+            object.get(),
+            key.get(),
+            dest,
+        ),
         Expr::Member(at, object, name) => member(
             lines,
             scope,
@@ -123,19 +134,25 @@ pub fn value<'a>(
             *at,
             object.get(),
             name.as_str(),
-            d,
+            dest,
         ),
         Expr::FunctionExpression(function) => {
-            function_value(lines, scope, word_of(function), word_of(function), d)
+            function_value(
+                lines,
+                scope,
+                keyword_at(function),
+                keyword_at(function),
+                dest,
+            )
         }
-        Expr::Name(at, name) => load(lines, scope, alloc, *at, name.as_str(), d),
-        Expr::Null(at) => literal(lines, scope, alloc, *at, "null", d),
-        Expr::True(at) => literal(lines, scope, alloc, *at, "true", d),
-        Expr::False(at) => literal(lines, scope, alloc, *at, "false", d),
-        Expr::Numeral(at, text) => numeral(lines, scope, alloc, *at, text, d),
-        Expr::Text(at, text) => literal(lines, scope, alloc, *at, text.as_str(), d),
-        Expr::Paren(_, inner) => value(lines, scope, alloc, inner.get(), d),
-        Expr::Array(at, all) => array(lines, scope, alloc, *at, all.as_slice(), d),
-        Expr::Object(at, all) => initialiser(lines, scope, alloc, *at, all.as_slice(), d),
+        Expr::Name(at, name) => load_name(lines, scope, alloc, *at, name.as_str(), dest),
+        Expr::Null(at) => literal(lines, scope, alloc, *at, "null", dest),
+        Expr::True(at) => literal(lines, scope, alloc, *at, "true", dest),
+        Expr::False(at) => literal(lines, scope, alloc, *at, "false", dest),
+        Expr::Numeral(at, text) => numeral(lines, scope, alloc, *at, text, dest),
+        Expr::Text(at, text) => literal(lines, scope, alloc, *at, text.as_str(), dest),
+        Expr::Paren(_, inner) => value(lines, scope, alloc, inner.get(), dest),
+        Expr::Array(at, all) => array(lines, scope, alloc, *at, all.as_slice(), dest),
+        Expr::Object(at, all) => initialiser(lines, scope, alloc, *at, all.as_slice(), dest),
     }
 }

@@ -1,20 +1,22 @@
 //! The lines of whole functions (13, 14.1).
 
 ghost use Rattle.std.specs.Prelude.{◌≡◌, ◌+◌, [], ◌∷◌, Some, None, OnOk, IfOk, map, codes};
-ghost use Rattle.mdg_lower.specs.Acts as acts;
-ghost use Rattle.mdg_lower.specs.Emitting.{Emits};
-ghost use Rattle.mdg_lower.specs.Filing as filing;
-ghost use Rattle.mdg_lower.specs.Lowered as lowered;
-ghost use Rattle.mdg_lower.specs.Naming as naming;
+ghost use Rattle.mdg_lower.specs.Statements as statements;
+ghost use Rattle.mdg_lower.specs.Labels as labels;
+ghost use Rattle.mdg_lower.specs.Builder.{Emits};
+ghost use Rattle.mdg_lower.specs.Tables as lowerings;
+ghost use Rattle.mdg_lower.specs.Forms as forms;
+ghost use Rattle.mdg_lower.specs.Trees as trees;
+ghost use Rattle.mdg_lower.specs.Lookup as lookup;
 
+use crate::builder::{here, resolve_labels};
 use crate::draft::DraftLine;
-use crate::emit::{aim, here};
-use crate::naming::{after, meaning, temp};
-use crate::piece::{copy, function_value, object, put, set_to, settled};
+use crate::instruction::{copy, function_value, object, push_statement, set_to, store_name};
+use crate::lookup::{increment, meaning, temp};
+use crate::reference::keyword_at;
 use crate::scope::{Meaning, Scope};
-use crate::shape::word_of;
-use crate::simple::nothing_back;
 use crate::statement::body;
+use crate::statement::leaf::return_undefined;
 use mdg_base::{Local, NoMemory, Text};
 use mdg_code::Statement;
 use mdg_scope::BoundFunction;
@@ -22,17 +24,17 @@ use mdg_tree::{At, Function, Stmt};
 use std::alloc::Global;
 
 /// A declared function is made, and its name becomes it.
-#[tactic(auto, using(crate::proofs::Growth::growth), unfolding(crate::specs::Acts::hoisted_as))]
+#[tactic(auto, using(crate::proofs::Growth::growth), unfolding(crate::specs::Statements::hoisted_as))]
 fn hoisted_as<'a>(
     lines: &mut Vec<DraftLine>,
     scope: &Scope<'a>,
     at: At,
     name: &str,
 ) -> Result<(), NoMemory>
-    ensures { OnOk result (Emits (acts.hoisted_as scope.now at name.now) lines.old.items lines.new.items) }
+    ensures { OnOk result (Emits (statements.hoisted_as scope.now at name.now) lines.old.items lines.new.items) }
 {
     function_value(lines, scope, at, at, 0)?;
-    put(lines, scope, at, name, temp(scope, 0)?)
+    store_name(lines, scope, at, name, temp(scope, 0)?)
 }
 
 #[tactic(auto, using(crate::proofs::Growth::growth))]
@@ -41,18 +43,20 @@ fn hoisted_function<'a>(
     scope: &Scope<'a>,
     function: &Function,
 ) -> Result<(), NoMemory>
-    ensures { OnOk result (Emits (acts.hoisted_function scope.now (lowered.word_of function.now) function.now.name) lines.old.items lines.new.items) }
+    ensures { OnOk result (Emits
+        (statements.hoisted_function scope.now (forms.keyword_at function.now) function.now.name)
+        lines.old.items lines.new.items) }
 {
     match &function.name {
-        Some(name) => hoisted_as(lines, scope, word_of(function), name.as_str()),
+        Some(name) => hoisted_as(lines, scope, keyword_at(function), name.as_str()),
         None => Ok(()),
     }
 }
 
 /// What stands at the start of a function for the statement.
-#[tactic(auto, using(crate::proofs::Growth::growth, crate::proofs::Equations::hoists))]
+#[tactic(auto, using(crate::proofs::Growth::growth, crate::proofs::FormRulesets::hoists))]
 fn hoisted<'a>(lines: &mut Vec<DraftLine>, scope: &Scope<'a>, tree: &Stmt) -> Result<(), NoMemory>
-    ensures { OnOk result (Emits (lowered.hoisted_of tree.now scope.now) lines.old.items lines.new.items) }
+    ensures { OnOk result (Emits (trees.hoisted_of tree.now scope.now) lines.old.items lines.new.items) }
 {
     match tree {
         Stmt::FunctionDeclaration(function) => hoisted_function(lines, scope, function),
@@ -80,7 +84,7 @@ fn all_hoisted<'a>(
     scope: &Scope<'a>,
     all: &[Stmt],
 ) -> Result<(), NoMemory>
-    ensures { OnOk result (Emits (lowered.hoisted_lines all.now scope.now) lines.old.items lines.new.items) }
+    ensures { OnOk result (Emits (trees.hoisted_lines all.now scope.now) lines.old.items lines.new.items) }
 {
     for one in all {
         hoisted(lines, scope, one)?;
@@ -88,7 +92,7 @@ fn all_hoisted<'a>(
     Ok(())
 }
 
-/// The statements of a body. A jump that no loop encloses goes behind them.
+/// The statements of a body. A jump that no loop encloses goes after them.
 #[tactic(auto, using(crate::proofs::LoopLemmas::closings))]
 fn closed_body<'a>(
     lines: &mut Vec<DraftLine>,
@@ -96,23 +100,23 @@ fn closed_body<'a>(
     alloc: Global,
     all: &[Stmt],
 ) -> Result<(), NoMemory>
-    ensures { OnOk result (Emits (acts.closed (lowered.body_lines all.now scope.now)) lines.old.items lines.new.items) }
+    ensures { OnOk result (Emits (labels.closed (trees.body_lines all.now scope.now)) lines.old.items lines.new.items) }
 {
     let start = here(lines)?;
     body(lines, scope, alloc, all)?;
     let end = here(lines)?;
-    aim(lines, start, end, end)
+    resolve_labels(lines, start, end, end)
 }
 
 /// What stands between the start and the end of a function.
-#[tactic(auto, using(crate::proofs::Growth::growth), unfolding(crate::specs::Filing::inner_lines))]
+#[tactic(auto, using(crate::proofs::Growth::growth), unfolding(crate::specs::Tables::inner_lines))]
 fn inner_lines<'a>(
     lines: &mut Vec<DraftLine>,
     scope: &Scope<'a>,
     alloc: Global,
     all: &[Stmt],
 ) -> Result<(), NoMemory>
-    ensures { OnOk result (Emits (filing.inner_lines scope.now all.now) lines.old.items lines.new.items) }
+    ensures { OnOk result (Emits (lowerings.inner_lines scope.now all.now) lines.old.items lines.new.items) }
 {
     all_hoisted(lines, scope, all)?;
     closed_body(lines, scope, alloc, all)
@@ -127,12 +131,14 @@ fn parameter<'a>(
     number: u32,
     name: &str,
 ) -> Result<(), NoMemory>
-    ensures { OnOk result (Emits (acts.parameter_by scope.now at number (naming.meaning scope.now name.now)) lines.old.items lines.new.items) }
+    ensures { OnOk result (Emits
+        (statements.parameter_by scope.now at number (lookup.meaning scope.now name.now))
+        lines.old.items lines.new.items) }
 {
     match meaning(scope, name)? {
         Meaning::Cell(cell, _) => {
             let value = Local(number);
-            settled(lines, scope, at, Statement::SetCell { cell, value })
+            push_statement(lines, scope, at, Statement::SetCell { cell, value })
         }
         Meaning::Local(..)
         | Meaning::Require
@@ -148,45 +154,52 @@ fn parameters<'a>(
     at: At,
     all: &[Text],
 ) -> Result<(), NoMemory>
-    ensures { OnOk result (Emits (acts.parameters_from scope.now at all.now 0) lines.old.items lines.new.items) }
+    ensures { OnOk result (Emits (statements.parameters_from scope.now at all.now 0) lines.old.items lines.new.items) }
 {
     let mut number = 0;
     for one in all {
         parameter(lines, scope, at, number, one.as_str())?;
-        number = after(number)?;
+        number = increment(number)?;
     }
     Ok(())
 }
 
 /// The name becomes the first temporary, be it the function's own or not.
 #[tactic(auto, using(crate::proofs::Growth::growth))]
-fn store<'a>(
+fn initialise_name<'a>(
     lines: &mut Vec<DraftLine>,
     scope: &Scope<'a>,
     at: At,
     name: &str,
 ) -> Result<(), NoMemory>
-    ensures { OnOk result (Emits (acts.store_by scope.now at (naming.meaning scope.now name.now)) lines.old.items lines.new.items) }
+    ensures { OnOk result (Emits
+        (statements.initialise_by scope.now at (lookup.meaning scope.now name.now))
+        lines.old.items lines.new.items) }
 {
     let value = temp(scope, 0)?;
     match meaning(scope, name)? {
         Meaning::Local(into, _) => copy(lines, scope, at, into, value),
-        Meaning::Cell(cell, _) => settled(lines, scope, at, Statement::SetCell { cell, value }),
+        Meaning::Cell(cell, _) => push_statement(
+            lines,
+            scope,
+            at,
+            Statement::SetCell { cell, value },
+        ),
         Meaning::Require | Meaning::Literal | Meaning::Global | Meaning::Nothing => Ok(()),
     }
 }
 
 /// A function expression's own name is the function that runs (13).
-#[tactic(auto, using(crate::proofs::Growth::growth), unfolding(crate::specs::Acts::own_named))]
+#[tactic(auto, using(crate::proofs::Growth::growth), unfolding(crate::specs::Statements::own_named))]
 fn own_named<'a>(
     lines: &mut Vec<DraftLine>,
     scope: &Scope<'a>,
     at: At,
     name: &str,
 ) -> Result<(), NoMemory>
-    ensures { OnOk result (Emits (acts.own_named scope.now at name.now) lines.old.items lines.new.items) }
+    ensures { OnOk result (Emits (statements.own_named scope.now at name.now) lines.old.items lines.new.items) }
 {
-    settled(
+    push_statement(
         lines,
         scope,
         at,
@@ -194,7 +207,7 @@ fn own_named<'a>(
             into: temp(scope, 0)?,
         },
     )?;
-    store(lines, scope, at, name)
+    initialise_name(lines, scope, at, name)
 }
 
 #[tactic(auto, using(crate::proofs::Growth::growth))]
@@ -205,7 +218,7 @@ fn own_start<'a>(
     is_used: bool,
     name: &Option<Text>,
 ) -> Result<(), NoMemory>
-    ensures { OnOk result (Emits (acts.own_start scope.now at is_used name.now) lines.old.items lines.new.items) }
+    ensures { OnOk result (Emits (statements.own_start scope.now at is_used name.now) lines.old.items lines.new.items) }
 {
     match name {
         Some(name) if is_used => own_named(lines, scope, at, name.as_str()),
@@ -214,35 +227,37 @@ fn own_start<'a>(
 }
 
 /// The start of a function.
-#[tactic(auto, using(crate::proofs::Growth::growth), unfolding(crate::specs::Acts::function_start))]
+#[tactic(auto, using(crate::proofs::Growth::growth), unfolding(crate::specs::Statements::function_start))]
 fn function_start<'a>(
     lines: &mut Vec<DraftLine>,
     scope: &Scope<'a>,
     at: At,
     function: &BoundFunction,
 ) -> Result<(), NoMemory>
-    ensures { OnOk result (Emits (acts.function_start scope.now at function.now.parameters function.now.own_name function.now.name) lines.old.items lines.new.items) }
+    ensures { OnOk result (Emits
+        (statements.function_start scope.now at function.now.parameters function.now.own_name function.now.name)
+        lines.old.items lines.new.items) }
 {
     parameters(lines, scope, at, function.parameters.as_slice())?;
     own_start(lines, scope, at, function.own_name, &function.name)
 }
 
 /// The start of a file's body: its module object with its exports.
-#[tactic(auto, using(crate::proofs::Growth::growth), unfolding(crate::specs::Acts::body_start))]
+#[tactic(auto, using(crate::proofs::Growth::growth), unfolding(crate::specs::Statements::body_start))]
 fn body_start<'a>(
     lines: &mut Vec<DraftLine>,
     scope: &Scope<'a>,
     alloc: Global,
     at: At,
 ) -> Result<(), NoMemory>
-    ensures { OnOk result (Emits (acts.body_start scope.now at) lines.old.items lines.new.items) }
+    ensures { OnOk result (Emits (statements.body_start scope.now at) lines.old.items lines.new.items) }
 {
     object(lines, scope, at, 0)?;
     object(lines, scope, at, 1)?;
     let module = temp(scope, 0)?;
     let exports = temp(scope, 1)?;
     set_to(lines, scope, alloc, at, module, "exports", exports)?;
-    settled(
+    push_statement(
         lines,
         scope,
         at,
@@ -251,12 +266,12 @@ fn body_start<'a>(
             value: module,
         },
     )?;
-    put(lines, scope, at, "module", module)?;
-    put(lines, scope, at, "exports", exports)
+    store_name(lines, scope, at, "module", module)?;
+    store_name(lines, scope, at, "exports", exports)
 }
 
 /// The lines of a function that was entered.
-#[tactic(auto, using(crate::proofs::Growth::growth), unfolding(crate::specs::Filing::function_lines))]
+#[tactic(auto, using(crate::proofs::Growth::growth), unfolding(crate::specs::Tables::function_lines))]
 pub fn function_lines<'a>(
     lines: &mut Vec<DraftLine>,
     scope: &Scope<'a>,
@@ -264,16 +279,18 @@ pub fn function_lines<'a>(
     function: &BoundFunction,
     tree: &Function,
 ) -> Result<(), NoMemory>
-    ensures { OnOk result (Emits (filing.function_lines scope.now function.now tree.now) lines.old.items lines.new.items) }
+    ensures { OnOk result (Emits
+        (lowerings.function_lines scope.now function.now tree.now)
+        lines.old.items lines.new.items) }
 {
-    let at = word_of(tree);
+    let at = keyword_at(tree);
     function_start(lines, scope, at, function)?;
     inner_lines(lines, scope, alloc, tree.body.as_slice())?;
-    nothing_back(lines, scope, alloc, at)
+    return_undefined(lines, scope, alloc, at)
 }
 
 /// The lines of the body of a file.
-#[tactic(auto, using(crate::proofs::Growth::growth), unfolding(crate::specs::Filing::file_lines))]
+#[tactic(auto, using(crate::proofs::Growth::growth), unfolding(crate::specs::Tables::file_lines))]
 pub fn file_lines<'a>(
     lines: &mut Vec<DraftLine>,
     scope: &Scope<'a>,
@@ -281,9 +298,9 @@ pub fn file_lines<'a>(
     at: At,
     items: &[Stmt],
 ) -> Result<(), NoMemory>
-    ensures { OnOk result (Emits (filing.file_lines scope.now at items.now) lines.old.items lines.new.items) }
+    ensures { OnOk result (Emits (lowerings.file_lines scope.now at items.now) lines.old.items lines.new.items) }
 {
     body_start(lines, scope, alloc, at)?;
     inner_lines(lines, scope, alloc, items)?;
-    nothing_back(lines, scope, alloc, at)
+    return_undefined(lines, scope, alloc, at)
 }

@@ -1,33 +1,28 @@
 //! Lowering: the files of a package become short numbered statements.
 //!
-//! The numbers beside the words are sections of ECMA-262, edition 5.1.
+//! The numbers in parentheses are sections of ECMA-262, edition 5.1.
 #![tactic(auto)]
 
 mod assigned;
+mod builder;
 mod column;
 mod draft;
-mod emit;
-mod entering;
+mod environment;
 mod expression;
-mod filing;
+mod frame_size;
 mod function;
+mod instruction;
+mod link;
+mod lookup;
 mod lowering;
-mod naming;
+mod nested;
 mod offsets;
-mod piece;
+mod reference;
 mod refusal;
-mod room;
 mod scope;
-mod seen;
-mod settle;
-mod shape;
-mod shared_table;
-mod sharing;
-mod simple;
+mod shared;
 mod statement;
-#[cfg(test)]
-mod tests;
-mod walk;
+mod tables;
 
 pub use lowering::lower;
 pub use refusal::LowerRefusal;

@@ -46,7 +46,7 @@ impl OffsetTable {
         self.offsets.get_index_of(&offset)
     }
 
-    /// Puts the offset behind the others, unless it is there.
+    /// Puts the offset after the others, unless it is there.
     pub fn add(&mut self, offset: u32) -> Result<(), NoMemory>
         ensures { OnOk result (self.new ≡ add_offset self.old offset) }
     {

@@ -6,7 +6,7 @@ use mdg_scope::Names;
 
 /// The names that a function binds.
 #[derive(Drop)]
-pub struct Frame<'a> {
+pub struct Bindings<'a> {
     /// The parameters, and then the other names that are no cells. Each has the local of its number.
     pub locals: Names<'a>,
 
@@ -45,7 +45,7 @@ pub enum Meaning {
 
 /// What a call of `require` asks for.
 #[derive(Debug, Drop)]
-pub enum Wanted {
+pub enum Dependency {
     /// A module outside the package.
     Module(Text),
 
@@ -68,16 +68,16 @@ pub struct Scope<'a> {
     pub first_function: u32,
 
     /// The functions of the file.
-    pub frames: Items<Frame<'a>>,
+    pub all_bindings: Items<Bindings<'a>>,
 
-    /// Where their words `function` stand.
+    /// Where their keywords `function` stand.
     pub functions: OffsetTable,
 
-    /// Where the words `require` of its calls stand.
+    /// Where the names `require` of its calls stand.
     pub required: OffsetTable,
 
     /// What these calls ask for.
-    pub wanted: Items<Wanted>,
+    pub dependencies: Items<Dependency>,
 
     /// The number of this function within the file.
     pub number: u32,

@@ -1,26 +1,27 @@
 //! Properties and calls (11.2).
 
 ghost use Rattle.std.specs.Prelude.{◌≡◌, ◌+◌, [], ◌∷◌, Some, None, OnOk, IfOk, map};
-ghost use Rattle.mdg_lower.specs.Emitting.{Emits};
-ghost use Rattle.mdg_lower.specs.Lowered as lowered;
-ghost use Rattle.mdg_lower.specs.Naming as naming;
-ghost use Rattle.mdg_lower.specs.Rows as rows;
+ghost use Rattle.mdg_lower.specs.Builder.{Emits};
+ghost use Rattle.mdg_lower.specs.Forms as forms;
+ghost use Rattle.mdg_lower.specs.Trees as trees;
+ghost use Rattle.mdg_lower.specs.Lookup as lookup;
+ghost use Rattle.mdg_lower.specs.Access as access;
 
-use crate::assigned::kept;
+use crate::assigned::stable_local;
 use crate::draft::DraftLine;
-use crate::expression::operand::{base, finish, key_in};
+use crate::expression::operand::{emit_call, lower_base, lower_key};
 use crate::expression::value;
-use crate::naming::meaning;
-use crate::piece::{get_at_from, get_from, require};
+use crate::instruction::{get_at_from, get_from, require};
+use crate::lookup::meaning;
+use crate::reference::{Reference, key_of, reference_of};
 use crate::scope::{Meaning, Scope};
-use crate::shape::{Shape, key_of, shape_of};
 use mdg_base::NoMemory;
 use mdg_tree::{At, Expr};
 use std::alloc::Global;
 
 /// `e.p`.
 #[cycle(expression)]
-#[tactic(auto, using(crate::proofs::Growth::growth), unfolding(crate::specs::Rows::get))]
+#[tactic(auto, using(crate::proofs::Growth::growth), unfolding(crate::specs::Access::get))]
 pub fn member<'a>(
     lines: &mut Vec<DraftLine>,
     scope: &Scope<'a>,
@@ -28,18 +29,20 @@ pub fn member<'a>(
     at: At,
     object: &Expr,
     name: &str,
-    d: u32,
+    dest: u32,
 ) -> Result<(), NoMemory>
-    ensures { OnOk result (Emits (rows.get scope.now at (lowered.plain_of object.now) name.now d) lines.old.items lines.new.items) }
+    ensures { OnOk result (Emits
+        (access.get scope.now at (trees.operand_of object.now) name.now dest)
+        lines.old.items lines.new.items) }
 {
-    let stays = kept(scope, object, None, None, &[])?;
-    let (of, _) = base(lines, scope, alloc, stays, object, d)?;
-    get_from(lines, scope, alloc, at, d, of, name)
+    let stable = stable_local(scope, object, None, None, &[])?;
+    let (of, _) = lower_base(lines, scope, alloc, stable, object, dest)?;
+    get_from(lines, scope, alloc, at, dest, of, name)
 }
 
 /// `e[k]`.
 #[cycle(expression)]
-#[tactic(auto, using(crate::proofs::Growth::growth), unfolding(crate::specs::Rows::get_at))]
+#[tactic(auto, using(crate::proofs::Growth::growth), unfolding(crate::specs::Access::get_at))]
 fn keyed<'a>(
     lines: &mut Vec<DraftLine>,
     scope: &Scope<'a>,
@@ -47,14 +50,16 @@ fn keyed<'a>(
     at: At,
     object: &Expr,
     key: &Expr,
-    d: u32,
+    dest: u32,
 ) -> Result<(), NoMemory>
-    ensures { OnOk result (Emits (rows.get_at scope.now at (lowered.plain_of object.now) (lowered.plain_of key.now) d) lines.old.items lines.new.items) }
+    ensures { OnOk result (Emits
+        (access.get_at scope.now at (trees.operand_of object.now) (trees.operand_of key.now) dest)
+        lines.old.items lines.new.items) }
 {
-    let stays = kept(scope, object, Some(key), None, &[])?;
-    let (of, next) = base(lines, scope, alloc, stays, object, d)?;
-    key_in(lines, scope, alloc, at, key, next)?;
-    get_at_from(lines, scope, at, d, of, next)
+    let stable = stable_local(scope, object, Some(key), None, &[])?;
+    let (of, next) = lower_base(lines, scope, alloc, stable, object, dest)?;
+    lower_key(lines, scope, alloc, at, key, next)?;
+    get_at_from(lines, scope, at, dest, of, next)
 }
 
 /// `e[k]`, whose key may be a property name that is spelled.
@@ -66,19 +71,22 @@ pub fn index<'a>(
     at: At,
     object: &Expr,
     key: &Expr,
-    d: u32,
+    dest: u32,
 ) -> Result<(), NoMemory>
-    ensures { OnOk result (Emits (lowered.index_value scope.now at (lowered.key_of key.now) (lowered.plain_of object.now) (lowered.plain_of key.now) d) lines.old.items lines.new.items) }
+    ensures { OnOk result (Emits
+        (forms.index_value scope.now at (trees.key_of key.now) (trees.operand_of object.now) (trees.operand_of key.now)
+        dest)
+        lines.old.items lines.new.items) }
 {
     match key_of(key) {
-        Some(name) => member(lines, scope, alloc, at, object, name.as_str(), d),
-        None => keyed(lines, scope, alloc, at, object, key, d),
+        Some(name) => member(lines, scope, alloc, at, object, name.as_str(), dest),
+        None => keyed(lines, scope, alloc, at, object, key, dest),
     }
 }
 
 /// `e.p(a)`.
 #[cycle(expression)]
-#[tactic(auto, using(crate::proofs::Growth::growth), unfolding(crate::specs::Rows::method))]
+#[tactic(auto, using(crate::proofs::Growth::growth), unfolding(crate::specs::Access::method))]
 fn method<'a>(
     lines: &mut Vec<DraftLine>,
     scope: &Scope<'a>,
@@ -87,19 +95,21 @@ fn method<'a>(
     object: &Expr,
     name: &str,
     all: &[Expr],
-    d: u32,
+    dest: u32,
 ) -> Result<(), NoMemory>
-    ensures { OnOk result (Emits (rows.method scope.now at (lowered.plain_of object.now) name.now (lowered.plains_of all.now) d) lines.old.items lines.new.items) }
+    ensures { OnOk result (Emits
+        (access.method scope.now at (trees.operand_of object.now) name.now (trees.operands_of all.now) dest)
+        lines.old.items lines.new.items) }
 {
-    let stays = kept(scope, object, None, None, all)?;
-    let (of, callee) = base(lines, scope, alloc, stays, object, d)?;
+    let stable = stable_local(scope, object, None, None, all)?;
+    let (of, callee) = lower_base(lines, scope, alloc, stable, object, dest)?;
     get_from(lines, scope, alloc, at, callee, of, name)?;
-    finish(lines, scope, alloc, at, Some(of), callee, all, d)
+    emit_call(lines, scope, alloc, at, Some(of), callee, all, dest)
 }
 
 /// `e[k](a)`.
 #[cycle(expression)]
-#[tactic(auto, using(crate::proofs::Growth::growth), unfolding(crate::specs::Rows::method_at))]
+#[tactic(auto, using(crate::proofs::Growth::growth), unfolding(crate::specs::Access::method_at))]
 fn method_at<'a>(
     lines: &mut Vec<DraftLine>,
     scope: &Scope<'a>,
@@ -108,20 +118,23 @@ fn method_at<'a>(
     object: &Expr,
     key: &Expr,
     all: &[Expr],
-    d: u32,
+    dest: u32,
 ) -> Result<(), NoMemory>
-    ensures { OnOk result (Emits (rows.method_at scope.now at (lowered.plain_of object.now) (lowered.plain_of key.now) (lowered.plains_of all.now) d) lines.old.items lines.new.items) }
+    ensures { OnOk result (Emits
+        (access.method_at scope.now at (trees.operand_of object.now) (trees.operand_of key.now)
+        (trees.operands_of all.now) dest)
+        lines.old.items lines.new.items) }
 {
-    let stays = kept(scope, object, Some(key), None, all)?;
-    let (of, callee) = base(lines, scope, alloc, stays, object, d)?;
-    key_in(lines, scope, alloc, at, key, callee)?;
+    let stable = stable_local(scope, object, Some(key), None, all)?;
+    let (of, callee) = lower_base(lines, scope, alloc, stable, object, dest)?;
+    lower_key(lines, scope, alloc, at, key, callee)?;
     get_at_from(lines, scope, at, callee, of, callee)?;
-    finish(lines, scope, alloc, at, Some(of), callee, all, d)
+    emit_call(lines, scope, alloc, at, Some(of), callee, all, dest)
 }
 
 /// `f(a)` and `new f(a)`.
 #[cycle(expression)]
-#[tactic(auto, using(crate::proofs::Growth::growth), unfolding(crate::specs::Rows::plain_call))]
+#[tactic(auto, using(crate::proofs::Growth::growth), unfolding(crate::specs::Access::plain_call))]
 pub fn plain_call<'a>(
     lines: &mut Vec<DraftLine>,
     scope: &Scope<'a>,
@@ -129,12 +142,14 @@ pub fn plain_call<'a>(
     at: At,
     callee: &Expr,
     all: &[Expr],
-    d: u32,
+    dest: u32,
 ) -> Result<(), NoMemory>
-    ensures { OnOk result (Emits (rows.plain_call scope.now at (lowered.plain_of callee.now) (lowered.plains_of all.now) d) lines.old.items lines.new.items) }
+    ensures { OnOk result (Emits
+        (access.plain_call scope.now at (trees.operand_of callee.now) (trees.operands_of all.now) dest)
+        lines.old.items lines.new.items) }
 {
-    value(lines, scope, alloc, callee, d)?;
-    finish(lines, scope, alloc, at, None, d, all, d)
+    value(lines, scope, alloc, callee, dest)?;
+    emit_call(lines, scope, alloc, at, None, dest, all, dest)
 }
 
 /// A call of a name, which may be `require`.
@@ -148,21 +163,24 @@ fn named_call<'a>(
     name: &str,
     callee: &Expr,
     all: &[Expr],
-    d: u32,
+    dest: u32,
 ) -> Result<(), NoMemory>
-    ensures { OnOk result (Emits (rows.named_call scope.now at (naming.meaning scope.now name.now) name_at.offset (lowered.plain_of callee.now) (lowered.plains_of all.now) d) lines.old.items lines.new.items) }
+    ensures { OnOk result (Emits
+        (access.named_call scope.now at (lookup.meaning scope.now name.now) name_at.offset (trees.operand_of callee.now)
+        (trees.operands_of all.now) dest)
+        lines.old.items lines.new.items) }
 {
     match meaning(scope, name)? {
-        Meaning::Require => require(lines, scope, alloc, at, name_at.offset, d),
+        Meaning::Require => require(lines, scope, alloc, at, name_at.offset, dest),
         Meaning::Local(..)
         | Meaning::Cell(..)
         | Meaning::Literal
         | Meaning::Global
-        | Meaning::Nothing => plain_call(lines, scope, alloc, at, callee, all, d),
+        | Meaning::Nothing => plain_call(lines, scope, alloc, at, callee, all, dest),
     }
 }
 
-/// A call, by the root of its callee.
+/// A call, by the reference that is its callee.
 #[cycle(expression)]
 pub fn call<'a>(
     lines: &mut Vec<DraftLine>,
@@ -171,12 +189,15 @@ pub fn call<'a>(
     at: At,
     callee: &Expr,
     all: &[Expr],
-    d: u32,
+    dest: u32,
 ) -> Result<(), NoMemory>
-    ensures { OnOk result (Emits (rows.call_of scope.now at (lowered.root_of callee.now) (lowered.plain_of callee.now) (lowered.plains_of all.now) d) lines.old.items lines.new.items) }
+    ensures { OnOk result (Emits
+        (access.call_of scope.now at (trees.reference_of callee.now) (trees.operand_of callee.now)
+        (trees.operands_of all.now) dest)
+        lines.old.items lines.new.items) }
 {
-    match shape_of(callee) {
-        Shape::Named(name_at, name) => named_call(
+    match reference_of(callee) {
+        Reference::Named(name_at, name) => named_call(
             lines,
             scope,
             alloc,
@@ -185,9 +206,9 @@ pub fn call<'a>(
             name.as_str(),
             callee,
             all,
-            d,
+            dest,
         ),
-        Shape::Member(object, name) => method(
+        Reference::Member(object, name) => method(
             lines,
             scope,
             alloc,
@@ -195,9 +216,9 @@ pub fn call<'a>(
             object,
             name.as_str(),
             all,
-            d,
+            dest,
         ),
-        Shape::Keyed(object, key) => method_at(lines, scope, alloc, at, object, key, all, d),
-        Shape::Other => plain_call(lines, scope, alloc, at, callee, all, d),
+        Reference::Keyed(object, key) => method_at(lines, scope, alloc, at, object, key, all, dest),
+        Reference::Other => plain_call(lines, scope, alloc, at, callee, all, dest),
     }
 }

@@ -1,29 +1,28 @@
-//! Assignments (11.13) and steps (11.3, 11.4.4, 11.4.5).
+//! Assignments (11.13), and prefix and postfix operators (11.3, 11.4.4, 11.4.5).
 
 ghost use Rattle.std.specs.Prelude.{◌≡◌, ◌+◌, [], ◌∷◌, Some, None, OnOk, IfOk, map};
-ghost use Rattle.mdg_lower.specs.Emitting.{Emits};
-ghost use Rattle.mdg_lower.specs.Lowered as lowered;
-ghost use Rattle.mdg_lower.specs.Naming as naming;
-ghost use Rattle.mdg_lower.specs.Rows as rows;
+ghost use Rattle.mdg_lower.specs.Builder.{Emits};
+ghost use Rattle.mdg_lower.specs.Trees as trees;
+ghost use Rattle.mdg_lower.specs.Assignments as assignments;
 
-use crate::assigned::kept;
+use crate::assigned::stable_local;
 use crate::draft::DraftLine;
-use crate::expression::operand::{base, key_in};
+use crate::expression::operand::{lower_base, lower_key};
 use crate::expression::value;
-use crate::naming::{after, temp};
-use crate::piece::{
-    bring, copy, get_at_from, get_from, load, operate_on, operate_on_one, operate_on_two, put,
-    set_at_to, set_to,
+use crate::instruction::{
+    copy, get_at_from, get_from, load_name, move_result, operate_on, operate_on_one,
+    operate_on_two, set_at_to, set_to, store_name,
 };
+use crate::lookup::{increment, temp};
+use crate::reference::{Reference, reference_of};
 use crate::scope::Scope;
-use crate::shape::{Shape, shape_of};
 use mdg_base::NoMemory;
 use mdg_tree::{AssignOperator, At, Expr};
 use std::alloc::Global;
 
 /// `n = v`.
 #[cycle(expression)]
-#[tactic(auto, using(crate::proofs::Growth::growth), unfolding(crate::specs::Rows::assign_name))]
+#[tactic(auto, using(crate::proofs::Growth::growth), unfolding(crate::specs::Assignments::assign_name))]
 fn assign_name<'a>(
     lines: &mut Vec<DraftLine>,
     scope: &Scope<'a>,
@@ -31,17 +30,19 @@ fn assign_name<'a>(
     at: At,
     name: &str,
     assigned: &Expr,
-    d: u32,
+    dest: u32,
 ) -> Result<(), NoMemory>
-    ensures { OnOk result (Emits (rows.assign_name scope.now at name.now (lowered.plain_of assigned.now) d) lines.old.items lines.new.items) }
+    ensures { OnOk result (Emits
+        (assignments.assign_name scope.now at name.now (trees.operand_of assigned.now) dest)
+        lines.old.items lines.new.items) }
 {
-    value(lines, scope, alloc, assigned, d)?;
-    put(lines, scope, at, name, temp(scope, d)?)
+    value(lines, scope, alloc, assigned, dest)?;
+    store_name(lines, scope, at, name, temp(scope, dest)?)
 }
 
 /// `e.p = v`.
 #[cycle(expression)]
-#[tactic(auto, using(crate::proofs::Growth::growth), unfolding(crate::specs::Rows::assign_member))]
+#[tactic(auto, using(crate::proofs::Growth::growth), unfolding(crate::specs::Assignments::assign_member))]
 fn assign_member<'a>(
     lines: &mut Vec<DraftLine>,
     scope: &Scope<'a>,
@@ -50,20 +51,23 @@ fn assign_member<'a>(
     object: &Expr,
     name: &str,
     assigned: &Expr,
-    d: u32,
+    dest: u32,
 ) -> Result<(), NoMemory>
-    ensures { OnOk result (Emits (rows.assign_member scope.now at (lowered.plain_of object.now) name.now (lowered.plain_of assigned.now) d) lines.old.items lines.new.items) }
+    ensures { OnOk result (Emits
+        (assignments.assign_member scope.now at (trees.operand_of object.now) name.now (trees.operand_of assigned.now)
+        dest)
+        lines.old.items lines.new.items) }
 {
-    let stays = kept(scope, object, Some(assigned), None, &[])?;
-    let (of, next) = base(lines, scope, alloc, stays, object, d)?;
+    let stable = stable_local(scope, object, Some(assigned), None, &[])?;
+    let (of, next) = lower_base(lines, scope, alloc, stable, object, dest)?;
     value(lines, scope, alloc, assigned, next)?;
     set_to(lines, scope, alloc, at, of, name, temp(scope, next)?)?;
-    bring(lines, scope, at, stays, d)
+    move_result(lines, scope, at, stable, dest)
 }
 
 /// `e[k] = v`.
 #[cycle(expression)]
-#[tactic(auto, using(crate::proofs::Growth::growth), unfolding(crate::specs::Rows::assign_keyed))]
+#[tactic(auto, using(crate::proofs::Growth::growth), unfolding(crate::specs::Assignments::assign_keyed))]
 fn assign_keyed<'a>(
     lines: &mut Vec<DraftLine>,
     scope: &Scope<'a>,
@@ -72,18 +76,21 @@ fn assign_keyed<'a>(
     object: &Expr,
     key: &Expr,
     assigned: &Expr,
-    d: u32,
+    dest: u32,
 ) -> Result<(), NoMemory>
-    ensures { OnOk result (Emits (rows.assign_keyed scope.now at (lowered.plain_of object.now) (lowered.plain_of key.now) (lowered.plain_of assigned.now) d) lines.old.items lines.new.items) }
+    ensures { OnOk result (Emits
+        (assignments.assign_keyed scope.now at (trees.operand_of object.now) (trees.operand_of key.now)
+        (trees.operand_of assigned.now) dest)
+        lines.old.items lines.new.items) }
 {
-    let stays = kept(scope, object, Some(key), Some(assigned), &[])?;
-    let (of, next) = base(lines, scope, alloc, stays, object, d)?;
-    key_in(lines, scope, alloc, at, key, next)?;
-    let last = after(next)?;
+    let stable = stable_local(scope, object, Some(key), Some(assigned), &[])?;
+    let (of, next) = lower_base(lines, scope, alloc, stable, object, dest)?;
+    lower_key(lines, scope, alloc, at, key, next)?;
+    let last = increment(next)?;
     value(lines, scope, alloc, assigned, last)?;
     let made = temp(scope, last)?;
     set_at_to(lines, scope, at, of, next, made)?;
-    copy(lines, scope, at, temp(scope, d)?, made)
+    copy(lines, scope, at, temp(scope, dest)?, made)
 }
 
 /// `l = v`.
@@ -95,13 +102,23 @@ fn assign<'a>(
     at: At,
     target: &Expr,
     assigned: &Expr,
-    d: u32,
+    dest: u32,
 ) -> Result<(), NoMemory>
-    ensures { OnOk result (Emits (rows.assign_of scope.now at (lowered.root_of target.now) (lowered.plain_of assigned.now) d) lines.old.items lines.new.items) }
+    ensures { OnOk result (Emits
+        (assignments.assign_of scope.now at (trees.reference_of target.now) (trees.operand_of assigned.now) dest)
+        lines.old.items lines.new.items) }
 {
-    match shape_of(target) {
-        Shape::Named(_, name) => assign_name(lines, scope, alloc, at, name.as_str(), assigned, d),
-        Shape::Member(object, name) => assign_member(
+    match reference_of(target) {
+        Reference::Named(_, name) => assign_name(
+            lines,
+            scope,
+            alloc,
+            at,
+            name.as_str(),
+            assigned,
+            dest,
+        ),
+        Reference::Member(object, name) => assign_member(
             lines,
             scope,
             alloc,
@@ -109,18 +126,18 @@ fn assign<'a>(
             object,
             name.as_str(),
             assigned,
-            d,
+            dest,
         ),
-        Shape::Keyed(object, key) => assign_keyed(
-            lines, scope, alloc, at, object, key, assigned, d,
+        Reference::Keyed(object, key) => assign_keyed(
+            lines, scope, alloc, at, object, key, assigned, dest,
         ),
-        Shape::Other => value(lines, scope, alloc, assigned, d),
+        Reference::Other => value(lines, scope, alloc, assigned, dest),
     }
 }
 
 /// `n += v`.
 #[cycle(expression)]
-#[tactic(auto, using(crate::proofs::Growth::growth), unfolding(crate::specs::Rows::compound_name))]
+#[tactic(auto, using(crate::proofs::Growth::growth), unfolding(crate::specs::Assignments::compound_name))]
 fn compound_name<'a>(
     lines: &mut Vec<DraftLine>,
     scope: &Scope<'a>,
@@ -129,20 +146,22 @@ fn compound_name<'a>(
     name_at: At,
     name: &str,
     assigned: &Expr,
-    d: u32,
+    dest: u32,
 ) -> Result<(), NoMemory>
-    ensures { OnOk result (Emits (rows.compound_name scope.now at name_at name.now (lowered.plain_of assigned.now) d) lines.old.items lines.new.items) }
+    ensures { OnOk result (Emits
+        (assignments.compound_name scope.now at name_at name.now (trees.operand_of assigned.now) dest)
+        lines.old.items lines.new.items) }
 {
-    load(lines, scope, alloc, name_at, name, d)?;
-    let next = after(d)?;
+    load_name(lines, scope, alloc, name_at, name, dest)?;
+    let next = increment(dest)?;
     value(lines, scope, alloc, assigned, next)?;
-    operate_on_two(lines, scope, alloc, at, d, next)?;
-    put(lines, scope, at, name, temp(scope, d)?)
+    operate_on_two(lines, scope, alloc, at, dest, next)?;
+    store_name(lines, scope, at, name, temp(scope, dest)?)
 }
 
 /// `e.p += v`.
 #[cycle(expression)]
-#[tactic(auto, using(crate::proofs::Growth::growth), unfolding(crate::specs::Rows::compound_member))]
+#[tactic(auto, using(crate::proofs::Growth::growth), unfolding(crate::specs::Assignments::compound_member))]
 fn compound_member<'a>(
     lines: &mut Vec<DraftLine>,
     scope: &Scope<'a>,
@@ -151,23 +170,26 @@ fn compound_member<'a>(
     object: &Expr,
     name: &str,
     assigned: &Expr,
-    d: u32,
+    dest: u32,
 ) -> Result<(), NoMemory>
-    ensures { OnOk result (Emits (rows.compound_member scope.now at (lowered.plain_of object.now) name.now (lowered.plain_of assigned.now) d) lines.old.items lines.new.items) }
+    ensures { OnOk result (Emits
+        (assignments.compound_member scope.now at (trees.operand_of object.now) name.now (trees.operand_of assigned.now)
+        dest)
+        lines.old.items lines.new.items) }
 {
-    let stays = kept(scope, object, Some(assigned), None, &[])?;
-    let (of, next) = base(lines, scope, alloc, stays, object, d)?;
+    let stable = stable_local(scope, object, Some(assigned), None, &[])?;
+    let (of, next) = lower_base(lines, scope, alloc, stable, object, dest)?;
     get_from(lines, scope, alloc, at, next, of, name)?;
-    let last = after(next)?;
+    let last = increment(next)?;
     value(lines, scope, alloc, assigned, last)?;
     operate_on_two(lines, scope, alloc, at, next, last)?;
     set_to(lines, scope, alloc, at, of, name, temp(scope, next)?)?;
-    bring(lines, scope, at, stays, d)
+    move_result(lines, scope, at, stable, dest)
 }
 
 /// `e[k] += v`.
 #[cycle(expression)]
-#[tactic(auto, using(crate::proofs::Growth::growth), unfolding(crate::specs::Rows::compound_keyed))]
+#[tactic(auto, using(crate::proofs::Growth::growth), unfolding(crate::specs::Assignments::compound_keyed))]
 fn compound_keyed<'a>(
     lines: &mut Vec<DraftLine>,
     scope: &Scope<'a>,
@@ -176,21 +198,24 @@ fn compound_keyed<'a>(
     object: &Expr,
     key: &Expr,
     assigned: &Expr,
-    d: u32,
+    dest: u32,
 ) -> Result<(), NoMemory>
-    ensures { OnOk result (Emits (rows.compound_keyed scope.now at (lowered.plain_of object.now) (lowered.plain_of key.now) (lowered.plain_of assigned.now) d) lines.old.items lines.new.items) }
+    ensures { OnOk result (Emits
+        (assignments.compound_keyed scope.now at (trees.operand_of object.now) (trees.operand_of key.now)
+        (trees.operand_of assigned.now) dest)
+        lines.old.items lines.new.items) }
 {
-    let stays = kept(scope, object, Some(key), Some(assigned), &[])?;
-    let (of, next) = base(lines, scope, alloc, stays, object, d)?;
-    key_in(lines, scope, alloc, at, key, next)?;
-    let old = after(next)?;
+    let stable = stable_local(scope, object, Some(key), Some(assigned), &[])?;
+    let (of, next) = lower_base(lines, scope, alloc, stable, object, dest)?;
+    lower_key(lines, scope, alloc, at, key, next)?;
+    let old = increment(next)?;
     get_at_from(lines, scope, at, old, of, next)?;
-    let last = after(old)?;
+    let last = increment(old)?;
     value(lines, scope, alloc, assigned, last)?;
     operate_on_two(lines, scope, alloc, at, old, last)?;
     let made = temp(scope, old)?;
     set_at_to(lines, scope, at, of, next, made)?;
-    copy(lines, scope, at, temp(scope, d)?, made)
+    copy(lines, scope, at, temp(scope, dest)?, made)
 }
 
 /// `l += v`.
@@ -202,12 +227,14 @@ fn compound<'a>(
     at: At,
     target: &Expr,
     assigned: &Expr,
-    d: u32,
+    dest: u32,
 ) -> Result<(), NoMemory>
-    ensures { OnOk result (Emits (rows.compound_of scope.now at (lowered.root_of target.now) (lowered.plain_of assigned.now) d) lines.old.items lines.new.items) }
+    ensures { OnOk result (Emits
+        (assignments.compound_of scope.now at (trees.reference_of target.now) (trees.operand_of assigned.now) dest)
+        lines.old.items lines.new.items) }
 {
-    match shape_of(target) {
-        Shape::Named(name_at, name) => compound_name(
+    match reference_of(target) {
+        Reference::Named(name_at, name) => compound_name(
             lines,
             scope,
             alloc,
@@ -215,9 +242,9 @@ fn compound<'a>(
             name_at,
             name.as_str(),
             assigned,
-            d,
+            dest,
         ),
-        Shape::Member(object, name) => compound_member(
+        Reference::Member(object, name) => compound_member(
             lines,
             scope,
             alloc,
@@ -225,12 +252,12 @@ fn compound<'a>(
             object,
             name.as_str(),
             assigned,
-            d,
+            dest,
         ),
-        Shape::Keyed(object, key) => compound_keyed(
-            lines, scope, alloc, at, object, key, assigned, d,
+        Reference::Keyed(object, key) => compound_keyed(
+            lines, scope, alloc, at, object, key, assigned, dest,
         ),
-        Shape::Other => value(lines, scope, alloc, assigned, d),
+        Reference::Other => value(lines, scope, alloc, assigned, dest),
     }
 }
 
@@ -244,12 +271,15 @@ pub fn assignment<'a>(
     operator: AssignOperator,
     target: &Expr,
     assigned: &Expr,
-    d: u32,
+    dest: u32,
 ) -> Result<(), NoMemory>
-    ensures { OnOk result (Emits (rows.assigned_with scope.now at operator (lowered.root_of target.now) (lowered.plain_of assigned.now) d) lines.old.items lines.new.items) }
+    ensures { OnOk result (Emits
+        (assignments.assigned_with scope.now at operator (trees.reference_of target.now) (trees.operand_of assigned.now)
+        dest)
+        lines.old.items lines.new.items) }
 {
     match operator {
-        AssignOperator::Plain => assign(lines, scope, alloc, at, target, assigned, d),
+        AssignOperator::Plain => assign(lines, scope, alloc, at, target, assigned, dest),
         AssignOperator::Add
         | AssignOperator::Subtract
         | AssignOperator::Multiply
@@ -260,12 +290,12 @@ pub fn assignment<'a>(
         | AssignOperator::ShiftRightUnsigned
         | AssignOperator::BitAnd
         | AssignOperator::BitOr
-        | AssignOperator::BitXor => compound(lines, scope, alloc, at, target, assigned, d),
+        | AssignOperator::BitXor => compound(lines, scope, alloc, at, target, assigned, dest),
     }
 }
 
 /// `++n`.
-#[tactic(auto, using(crate::proofs::Growth::growth), unfolding(crate::specs::Rows::prefix_name))]
+#[tactic(auto, using(crate::proofs::Growth::growth), unfolding(crate::specs::Assignments::prefix_name))]
 fn prefix_name<'a>(
     lines: &mut Vec<DraftLine>,
     scope: &Scope<'a>,
@@ -273,18 +303,20 @@ fn prefix_name<'a>(
     at: At,
     name_at: At,
     name: &str,
-    d: u32,
+    dest: u32,
 ) -> Result<(), NoMemory>
-    ensures { OnOk result (Emits (rows.prefix_name scope.now at name_at name.now d) lines.old.items lines.new.items) }
+    ensures { OnOk result (Emits
+        (assignments.prefix_name scope.now at name_at name.now dest)
+        lines.old.items lines.new.items) }
 {
-    load(lines, scope, alloc, name_at, name, d)?;
-    operate_on(lines, scope, alloc, at, d)?;
-    put(lines, scope, at, name, temp(scope, d)?)
+    load_name(lines, scope, alloc, name_at, name, dest)?;
+    operate_on(lines, scope, alloc, at, dest)?;
+    store_name(lines, scope, at, name, temp(scope, dest)?)
 }
 
 /// `++e.p`.
 #[cycle(expression)]
-#[tactic(auto, using(crate::proofs::Growth::growth), unfolding(crate::specs::Rows::prefix_member))]
+#[tactic(auto, using(crate::proofs::Growth::growth), unfolding(crate::specs::Assignments::prefix_member))]
 fn prefix_member<'a>(
     lines: &mut Vec<DraftLine>,
     scope: &Scope<'a>,
@@ -292,21 +324,23 @@ fn prefix_member<'a>(
     at: At,
     object: &Expr,
     name: &str,
-    d: u32,
+    dest: u32,
 ) -> Result<(), NoMemory>
-    ensures { OnOk result (Emits (rows.prefix_member scope.now at (lowered.plain_of object.now) name.now d) lines.old.items lines.new.items) }
+    ensures { OnOk result (Emits
+        (assignments.prefix_member scope.now at (trees.operand_of object.now) name.now dest)
+        lines.old.items lines.new.items) }
 {
-    let stays = kept(scope, object, None, None, &[])?;
-    let (of, next) = base(lines, scope, alloc, stays, object, d)?;
+    let stable = stable_local(scope, object, None, None, &[])?;
+    let (of, next) = lower_base(lines, scope, alloc, stable, object, dest)?;
     get_from(lines, scope, alloc, at, next, of, name)?;
     operate_on(lines, scope, alloc, at, next)?;
     set_to(lines, scope, alloc, at, of, name, temp(scope, next)?)?;
-    bring(lines, scope, at, stays, d)
+    move_result(lines, scope, at, stable, dest)
 }
 
 /// `++e[k]`.
 #[cycle(expression)]
-#[tactic(auto, using(crate::proofs::Growth::growth), unfolding(crate::specs::Rows::prefix_keyed))]
+#[tactic(auto, using(crate::proofs::Growth::growth), unfolding(crate::specs::Assignments::prefix_keyed))]
 fn prefix_keyed<'a>(
     lines: &mut Vec<DraftLine>,
     scope: &Scope<'a>,
@@ -314,19 +348,21 @@ fn prefix_keyed<'a>(
     at: At,
     object: &Expr,
     key: &Expr,
-    d: u32,
+    dest: u32,
 ) -> Result<(), NoMemory>
-    ensures { OnOk result (Emits (rows.prefix_keyed scope.now at (lowered.plain_of object.now) (lowered.plain_of key.now) d) lines.old.items lines.new.items) }
+    ensures { OnOk result (Emits
+        (assignments.prefix_keyed scope.now at (trees.operand_of object.now) (trees.operand_of key.now) dest)
+        lines.old.items lines.new.items) }
 {
-    let stays = kept(scope, object, Some(key), None, &[])?;
-    let (of, next) = base(lines, scope, alloc, stays, object, d)?;
-    key_in(lines, scope, alloc, at, key, next)?;
-    let old = after(next)?;
+    let stable = stable_local(scope, object, Some(key), None, &[])?;
+    let (of, next) = lower_base(lines, scope, alloc, stable, object, dest)?;
+    lower_key(lines, scope, alloc, at, key, next)?;
+    let old = increment(next)?;
     get_at_from(lines, scope, at, old, of, next)?;
     operate_on(lines, scope, alloc, at, old)?;
     let made = temp(scope, old)?;
     set_at_to(lines, scope, at, of, next, made)?;
-    copy(lines, scope, at, temp(scope, d)?, made)
+    copy(lines, scope, at, temp(scope, dest)?, made)
 }
 
 /// `++l` and `--l`.
@@ -337,36 +373,38 @@ pub fn prefix<'a>(
     alloc: Global,
     at: At,
     target: &Expr,
-    d: u32,
+    dest: u32,
 ) -> Result<(), NoMemory>
-    ensures { OnOk result (Emits (rows.prefix_of scope.now at (lowered.root_of target.now) (lowered.plain_of target.now) d) lines.old.items lines.new.items) }
+    ensures { OnOk result (Emits
+        (assignments.prefix_of scope.now at (trees.reference_of target.now) (trees.operand_of target.now) dest)
+        lines.old.items lines.new.items) }
 {
-    match shape_of(target) {
-        Shape::Named(name_at, name) => prefix_name(
+    match reference_of(target) {
+        Reference::Named(name_at, name) => prefix_name(
             lines,
             scope,
             alloc,
             at,
             name_at,
             name.as_str(),
-            d,
+            dest,
         ),
-        Shape::Member(object, name) => prefix_member(
+        Reference::Member(object, name) => prefix_member(
             lines,
             scope,
             alloc,
             at,
             object,
             name.as_str(),
-            d,
+            dest,
         ),
-        Shape::Keyed(object, key) => prefix_keyed(lines, scope, alloc, at, object, key, d),
-        Shape::Other => value(lines, scope, alloc, target, d),
+        Reference::Keyed(object, key) => prefix_keyed(lines, scope, alloc, at, object, key, dest),
+        Reference::Other => value(lines, scope, alloc, target, dest),
     }
 }
 
 /// `n++`.
-#[tactic(auto, using(crate::proofs::Growth::growth), unfolding(crate::specs::Rows::postfix_name))]
+#[tactic(auto, using(crate::proofs::Growth::growth), unfolding(crate::specs::Assignments::postfix_name))]
 fn postfix_name<'a>(
     lines: &mut Vec<DraftLine>,
     scope: &Scope<'a>,
@@ -374,20 +412,22 @@ fn postfix_name<'a>(
     at: At,
     name_at: At,
     name: &str,
-    d: u32,
+    dest: u32,
 ) -> Result<(), NoMemory>
-    ensures { OnOk result (Emits (rows.postfix_name scope.now at name_at name.now d) lines.old.items lines.new.items) }
+    ensures { OnOk result (Emits
+        (assignments.postfix_name scope.now at name_at name.now dest)
+        lines.old.items lines.new.items) }
 {
-    load(lines, scope, alloc, name_at, name, d)?;
-    operate_on(lines, scope, alloc, at, d)?;
-    let next = after(d)?;
-    operate_on_one(lines, scope, alloc, at, next, d)?;
-    put(lines, scope, at, name, temp(scope, next)?)
+    load_name(lines, scope, alloc, name_at, name, dest)?;
+    operate_on(lines, scope, alloc, at, dest)?;
+    let next = increment(dest)?;
+    operate_on_one(lines, scope, alloc, at, next, dest)?;
+    store_name(lines, scope, at, name, temp(scope, next)?)
 }
 
 /// `e.p++`.
 #[cycle(expression)]
-#[tactic(auto, using(crate::proofs::Growth::growth), unfolding(crate::specs::Rows::postfix_member))]
+#[tactic(auto, using(crate::proofs::Growth::growth), unfolding(crate::specs::Assignments::postfix_member))]
 fn postfix_member<'a>(
     lines: &mut Vec<DraftLine>,
     scope: &Scope<'a>,
@@ -395,23 +435,25 @@ fn postfix_member<'a>(
     at: At,
     object: &Expr,
     name: &str,
-    d: u32,
+    dest: u32,
 ) -> Result<(), NoMemory>
-    ensures { OnOk result (Emits (rows.postfix_member scope.now at (lowered.plain_of object.now) name.now d) lines.old.items lines.new.items) }
+    ensures { OnOk result (Emits
+        (assignments.postfix_member scope.now at (trees.operand_of object.now) name.now dest)
+        lines.old.items lines.new.items) }
 {
-    let stays = kept(scope, object, None, None, &[])?;
-    let (of, next) = base(lines, scope, alloc, stays, object, d)?;
+    let stable = stable_local(scope, object, None, None, &[])?;
+    let (of, next) = lower_base(lines, scope, alloc, stable, object, dest)?;
     get_from(lines, scope, alloc, at, next, of, name)?;
     operate_on(lines, scope, alloc, at, next)?;
-    let last = after(next)?;
+    let last = increment(next)?;
     operate_on_one(lines, scope, alloc, at, last, next)?;
     set_to(lines, scope, alloc, at, of, name, temp(scope, last)?)?;
-    bring(lines, scope, at, stays, d)
+    move_result(lines, scope, at, stable, dest)
 }
 
 /// `e[k]++`.
 #[cycle(expression)]
-#[tactic(auto, using(crate::proofs::Growth::growth), unfolding(crate::specs::Rows::postfix_keyed))]
+#[tactic(auto, using(crate::proofs::Growth::growth), unfolding(crate::specs::Assignments::postfix_keyed))]
 fn postfix_keyed<'a>(
     lines: &mut Vec<DraftLine>,
     scope: &Scope<'a>,
@@ -419,20 +461,22 @@ fn postfix_keyed<'a>(
     at: At,
     object: &Expr,
     key: &Expr,
-    d: u32,
+    dest: u32,
 ) -> Result<(), NoMemory>
-    ensures { OnOk result (Emits (rows.postfix_keyed scope.now at (lowered.plain_of object.now) (lowered.plain_of key.now) d) lines.old.items lines.new.items) }
+    ensures { OnOk result (Emits
+        (assignments.postfix_keyed scope.now at (trees.operand_of object.now) (trees.operand_of key.now) dest)
+        lines.old.items lines.new.items) }
 {
-    let stays = kept(scope, object, Some(key), None, &[])?;
-    let (of, next) = base(lines, scope, alloc, stays, object, d)?;
-    key_in(lines, scope, alloc, at, key, next)?;
-    let old = after(next)?;
+    let stable = stable_local(scope, object, Some(key), None, &[])?;
+    let (of, next) = lower_base(lines, scope, alloc, stable, object, dest)?;
+    lower_key(lines, scope, alloc, at, key, next)?;
+    let old = increment(next)?;
     get_at_from(lines, scope, at, old, of, next)?;
     operate_on(lines, scope, alloc, at, old)?;
-    let last = after(old)?;
+    let last = increment(old)?;
     operate_on_one(lines, scope, alloc, at, last, old)?;
     set_at_to(lines, scope, at, of, next, temp(scope, last)?)?;
-    copy(lines, scope, at, temp(scope, d)?, temp(scope, old)?)
+    copy(lines, scope, at, temp(scope, dest)?, temp(scope, old)?)
 }
 
 /// `l++` and `l--`.
@@ -443,30 +487,32 @@ pub fn postfix<'a>(
     alloc: Global,
     at: At,
     target: &Expr,
-    d: u32,
+    dest: u32,
 ) -> Result<(), NoMemory>
-    ensures { OnOk result (Emits (rows.postfix_of scope.now at (lowered.root_of target.now) (lowered.plain_of target.now) d) lines.old.items lines.new.items) }
+    ensures { OnOk result (Emits
+        (assignments.postfix_of scope.now at (trees.reference_of target.now) (trees.operand_of target.now) dest)
+        lines.old.items lines.new.items) }
 {
-    match shape_of(target) {
-        Shape::Named(name_at, name) => postfix_name(
+    match reference_of(target) {
+        Reference::Named(name_at, name) => postfix_name(
             lines,
             scope,
             alloc,
             at,
             name_at,
             name.as_str(),
-            d,
+            dest,
         ),
-        Shape::Member(object, name) => postfix_member(
+        Reference::Member(object, name) => postfix_member(
             lines,
             scope,
             alloc,
             at,
             object,
             name.as_str(),
-            d,
+            dest,
         ),
-        Shape::Keyed(object, key) => postfix_keyed(lines, scope, alloc, at, object, key, d),
-        Shape::Other => value(lines, scope, alloc, target, d),
+        Reference::Keyed(object, key) => postfix_keyed(lines, scope, alloc, at, object, key, dest),
+        Reference::Other => value(lines, scope, alloc, target, dest),
     }
 }

@@ -1,77 +1,85 @@
 //! Operators (11.4 to 11.12).
 
 ghost use Rattle.std.specs.Prelude.{◌≡◌, ◌+◌, [], ◌∷◌, Some, None, OnOk, IfOk, map};
-ghost use Rattle.mdg_lower.specs.Emitting.{Emits};
-ghost use Rattle.mdg_lower.specs.Lowered as lowered;
-ghost use Rattle.mdg_lower.specs.Naming as naming;
-ghost use Rattle.mdg_lower.specs.Rows as rows;
+ghost use Rattle.mdg_lower.specs.Builder.{Emits};
+ghost use Rattle.mdg_lower.specs.Trees as trees;
+ghost use Rattle.mdg_lower.specs.Lookup as lookup;
+ghost use Rattle.mdg_lower.specs.Operators as operators;
 
-use crate::assigned::kept;
+use crate::assigned::stable_local;
+use crate::builder::{here, patch_branch, reserve_branch};
 use crate::draft::DraftLine;
-use crate::emit::{here, hold, set};
-use crate::expression::operand::{base, guarded, key_in, removed_keyed, removed_member};
+use crate::expression::operand::{
+    emit_optional, lower_base, lower_key, remove_keyed, remove_member,
+};
 use crate::expression::value;
-use crate::naming::{after, meaning};
-use crate::piece::{any_primitive, literal, operate, operate_on, operate_on_two};
+use crate::instruction::{any_primitive, literal, operate, operate_on, operate_on_two};
+use crate::lookup::{increment, meaning};
+use crate::reference::{Reference, name_of, reference_of};
 use crate::scope::{Meaning, Scope};
-use crate::shape::{Shape, name_of, shape_of};
 use mdg_base::{Items, NoMemory};
 use mdg_tree::{At, BinaryOperator, Expr, UnaryOperator};
 use std::alloc::Global;
 
 /// An operator on one value.
 #[cycle(expression)]
-#[tactic(auto, using(crate::proofs::Growth::growth), unfolding(crate::specs::Rows::operated))]
-fn operated<'a>(
+#[tactic(auto, using(crate::proofs::Growth::growth), unfolding(crate::specs::Operators::unary_operation))]
+fn unary_operation<'a>(
     lines: &mut Vec<DraftLine>,
     scope: &Scope<'a>,
     alloc: Global,
     at: At,
     tree: &Expr,
-    d: u32,
+    dest: u32,
 ) -> Result<(), NoMemory>
-    ensures { OnOk result (Emits (rows.operated scope.now at (lowered.plain_of tree.now) d) lines.old.items lines.new.items) }
+    ensures { OnOk result (Emits
+        (operators.unary_operation scope.now at (trees.operand_of tree.now) dest)
+        lines.old.items lines.new.items) }
 {
-    value(lines, scope, alloc, tree, d)?;
-    operate_on(lines, scope, alloc, at, d)
+    value(lines, scope, alloc, tree, dest)?;
+    operate_on(lines, scope, alloc, at, dest)
 }
 
 /// An operator on two values.
 #[cycle(expression)]
-#[tactic(auto, using(crate::proofs::Growth::growth), unfolding(crate::specs::Rows::joined))]
-fn joined<'a>(
+#[tactic(auto, using(crate::proofs::Growth::growth), unfolding(crate::specs::Operators::binary_operation))]
+fn binary_operation<'a>(
     lines: &mut Vec<DraftLine>,
     scope: &Scope<'a>,
     alloc: Global,
     at: At,
     left: &Expr,
     right: &Expr,
-    d: u32,
+    dest: u32,
 ) -> Result<(), NoMemory>
-    ensures { OnOk result (Emits (rows.joined scope.now at (lowered.plain_of left.now) (lowered.plain_of right.now) d) lines.old.items lines.new.items) }
+    ensures { OnOk result (Emits
+        (operators.binary_operation scope.now at (trees.operand_of left.now) (trees.operand_of right.now) dest)
+        lines.old.items lines.new.items) }
 {
-    value(lines, scope, alloc, left, d)?;
-    let next = after(d)?;
+    value(lines, scope, alloc, left, dest)?;
+    let next = increment(dest)?;
     value(lines, scope, alloc, right, next)?;
-    operate_on_two(lines, scope, alloc, at, d, next)
+    operate_on_two(lines, scope, alloc, at, dest, next)
 }
 
 /// `a && b` and `a || b`.
 #[cycle(expression)]
-#[tactic(auto, using(crate::proofs::Growth::growth), unfolding(crate::specs::Rows::both))]
-fn both<'a>(
+#[tactic(auto, using(crate::proofs::Growth::growth), unfolding(crate::specs::Operators::logical_operation))]
+fn logical_operation<'a>(
     lines: &mut Vec<DraftLine>,
     scope: &Scope<'a>,
     alloc: Global,
     at: At,
     left: &Expr,
     right: &Expr,
-    d: u32,
+    dest: u32,
 ) -> Result<(), NoMemory>
-    ensures { OnOk result (Emits (rows.both scope.now at (lowered.plain_of left.now) (lowered.plain_of right.now) d) lines.old.items lines.new.items) }
+    ensures { OnOk result (Emits
+        (operators.logical_operation scope.now at (trees.operand_of left.now) (trees.operand_of right.now) dest)
+        lines.old.items lines.new.items) }
 {
-    value(lines, scope, alloc, left, d)?;
-    guarded(lines, scope, alloc, at, right, d)
+    value(lines, scope, alloc, left, dest)?;
+    emit_optional(lines, scope, alloc, at, right, dest)
 }
 
 /// An operator between two values.
@@ -84,12 +92,16 @@ pub fn binary<'a>(
     operator: BinaryOperator,
     left: &Expr,
     right: &Expr,
-    d: u32,
+    dest: u32,
 ) -> Result<(), NoMemory>
-    ensures { OnOk result (Emits (rows.binary_of scope.now at operator (lowered.plain_of left.now) (lowered.plain_of right.now) d) lines.old.items lines.new.items) }
+    ensures { OnOk result (Emits
+        (operators.binary_of scope.now at operator (trees.operand_of left.now) (trees.operand_of right.now) dest)
+        lines.old.items lines.new.items) }
 {
     match operator {
-        BinaryOperator::Or | BinaryOperator::And => both(lines, scope, alloc, at, left, right, d),
+        BinaryOperator::Or | BinaryOperator::And => logical_operation(
+            lines, scope, alloc, at, left, right, dest,
+        ),
         BinaryOperator::BitOr
         | BinaryOperator::BitXor
         | BinaryOperator::BitAnd
@@ -110,13 +122,13 @@ pub fn binary<'a>(
         | BinaryOperator::Subtract
         | BinaryOperator::Multiply
         | BinaryOperator::Divide
-        | BinaryOperator::Remainder => joined(lines, scope, alloc, at, left, right, d),
+        | BinaryOperator::Remainder => binary_operation(lines, scope, alloc, at, left, right, dest),
     }
 }
 
 /// `c ? a : b`.
 #[cycle(expression)]
-#[tactic(auto, using(crate::proofs::Growth::growth), unfolding(crate::specs::Rows::conditional))]
+#[tactic(auto, using(crate::proofs::Growth::growth), unfolding(crate::specs::Operators::conditional))]
 pub fn conditional<'a>(
     lines: &mut Vec<DraftLine>,
     scope: &Scope<'a>,
@@ -125,12 +137,15 @@ pub fn conditional<'a>(
     test: &Expr,
     chosen: &Expr,
     otherwise: &Expr,
-    d: u32,
+    dest: u32,
 ) -> Result<(), NoMemory>
-    ensures { OnOk result (Emits (rows.conditional scope.now at (lowered.plain_of test.now) (lowered.plain_of chosen.now) (lowered.plain_of otherwise.now) d) lines.old.items lines.new.items) }
+    ensures { OnOk result (Emits
+        (operators.conditional scope.now at (trees.operand_of test.now) (trees.operand_of chosen.now)
+        (trees.operand_of otherwise.now) dest)
+        lines.old.items lines.new.items) }
 {
-    value(lines, scope, alloc, test, d)?;
-    either(lines, scope, alloc, at, chosen, otherwise, d)
+    value(lines, scope, alloc, test, dest)?;
+    either(lines, scope, alloc, at, chosen, otherwise, dest)
 }
 
 /// One of two values.
@@ -143,36 +158,41 @@ fn either<'a>(
     at: At,
     chosen: &Expr,
     otherwise: &Expr,
-    d: u32,
+    dest: u32,
 ) -> Result<(), NoMemory>
-    ensures { OnOk result (Emits (rows.either scope.now at ((lowered.plain_of chosen.now).value scope.now d) ((lowered.plain_of otherwise.now).value scope.now d)) lines.old.items lines.new.items) }
+    ensures { OnOk result (Emits
+        (operators.either scope.now at ((trees.operand_of chosen.now).value scope.now dest)
+        ((trees.operand_of otherwise.now).value scope.now dest))
+        lines.old.items lines.new.items) }
 {
     let from = here(lines)?;
-    hold(lines, scope, at)?;
-    value(lines, scope, alloc, chosen, d)?;
+    reserve_branch(lines, scope, at)?;
+    value(lines, scope, alloc, chosen, dest)?;
     let middle = here(lines)?;
-    hold(lines, scope, at)?;
-    value(lines, scope, alloc, otherwise, d)?;
+    reserve_branch(lines, scope, at)?;
+    value(lines, scope, alloc, otherwise, dest)?;
     let end = here(lines)?;
-    set(lines, scope, at, from, after(from)?, after(middle)?)?;
-    set(lines, scope, at, middle, end, end)
+    patch_branch(lines, scope, at, from, increment(from)?, increment(middle)?)?;
+    patch_branch(lines, scope, at, middle, end, end)
 }
 
 /// `void e`.
 #[cycle(expression)]
-#[tactic(auto, using(crate::proofs::Growth::growth), unfolding(crate::specs::Rows::emptied))]
-fn emptied<'a>(
+#[tactic(auto, using(crate::proofs::Growth::growth), unfolding(crate::specs::Operators::void_of))]
+fn void_of<'a>(
     lines: &mut Vec<DraftLine>,
     scope: &Scope<'a>,
     alloc: Global,
     at: At,
     tree: &Expr,
-    d: u32,
+    dest: u32,
 ) -> Result<(), NoMemory>
-    ensures { OnOk result (Emits (rows.emptied scope.now at (lowered.plain_of tree.now) d) lines.old.items lines.new.items) }
+    ensures { OnOk result (Emits
+        (operators.void_of scope.now at (trees.operand_of tree.now) dest)
+        lines.old.items lines.new.items) }
 {
-    value(lines, scope, alloc, tree, d)?;
-    literal(lines, scope, alloc, at, "undefined", d)
+    value(lines, scope, alloc, tree, dest)?;
+    literal(lines, scope, alloc, at, "undefined", dest)
 }
 
 /// `typeof` of a name, which may mean nothing.
@@ -184,17 +204,19 @@ fn type_of_name<'a>(
     at: At,
     name: &str,
     tree: &Expr,
-    d: u32,
+    dest: u32,
 ) -> Result<(), NoMemory>
-    ensures { OnOk result (Emits (rows.type_of_name scope.now at (naming.meaning scope.now name.now) (lowered.plain_of tree.now) d) lines.old.items lines.new.items) }
+    ensures { OnOk result (Emits
+        (operators.type_of_name scope.now at (lookup.meaning scope.now name.now) (trees.operand_of tree.now) dest)
+        lines.old.items lines.new.items) }
 {
     match meaning(scope, name)? {
-        Meaning::Nothing => operate(lines, scope, at, d, Items::create(alloc)),
+        Meaning::Nothing => operate(lines, scope, at, dest, Items::create(alloc)),
         Meaning::Local(..)
         | Meaning::Cell(..)
         | Meaning::Require
         | Meaning::Literal
-        | Meaning::Global => operated(lines, scope, alloc, at, tree, d),
+        | Meaning::Global => unary_operation(lines, scope, alloc, at, tree, dest),
     }
 }
 
@@ -206,19 +228,21 @@ fn type_of<'a>(
     alloc: Global,
     at: At,
     tree: &Expr,
-    d: u32,
+    dest: u32,
 ) -> Result<(), NoMemory>
-    ensures { OnOk result (Emits (rows.type_of scope.now at (lowered.name_of tree.now) (lowered.plain_of tree.now) d) lines.old.items lines.new.items) }
+    ensures { OnOk result (Emits
+        (operators.type_of scope.now at (trees.name_of tree.now) (trees.operand_of tree.now) dest)
+        lines.old.items lines.new.items) }
 {
     match name_of(tree) {
-        Some(name) => type_of_name(lines, scope, alloc, at, name.as_str(), tree, d),
-        None => operated(lines, scope, alloc, at, tree, d),
+        Some(name) => type_of_name(lines, scope, alloc, at, name.as_str(), tree, dest),
+        None => unary_operation(lines, scope, alloc, at, tree, dest),
     }
 }
 
 /// `delete e.p`.
 #[cycle(expression)]
-#[tactic(auto, using(crate::proofs::Growth::growth), unfolding(crate::specs::Rows::delete_member))]
+#[tactic(auto, using(crate::proofs::Growth::growth), unfolding(crate::specs::Operators::delete_member))]
 fn delete_member<'a>(
     lines: &mut Vec<DraftLine>,
     scope: &Scope<'a>,
@@ -226,19 +250,21 @@ fn delete_member<'a>(
     at: At,
     object: &Expr,
     name: &str,
-    d: u32,
+    dest: u32,
 ) -> Result<(), NoMemory>
-    ensures { OnOk result (Emits (rows.delete_member scope.now at (lowered.plain_of object.now) name.now d) lines.old.items lines.new.items) }
+    ensures { OnOk result (Emits
+        (operators.delete_member scope.now at (trees.operand_of object.now) name.now dest)
+        lines.old.items lines.new.items) }
 {
-    let stays = kept(scope, object, None, None, &[])?;
-    let (of, next) = base(lines, scope, alloc, stays, object, d)?;
-    removed_member(lines, scope, alloc, at, of, name, next)?;
-    any_primitive(lines, scope, at, d)
+    let stable = stable_local(scope, object, None, None, &[])?;
+    let (of, next) = lower_base(lines, scope, alloc, stable, object, dest)?;
+    remove_member(lines, scope, alloc, at, of, name, next)?;
+    any_primitive(lines, scope, at, dest)
 }
 
 /// `delete e[k]`.
 #[cycle(expression)]
-#[tactic(auto, using(crate::proofs::Growth::growth), unfolding(crate::specs::Rows::delete_keyed))]
+#[tactic(auto, using(crate::proofs::Growth::growth), unfolding(crate::specs::Operators::delete_keyed))]
 fn delete_keyed<'a>(
     lines: &mut Vec<DraftLine>,
     scope: &Scope<'a>,
@@ -246,35 +272,39 @@ fn delete_keyed<'a>(
     at: At,
     object: &Expr,
     key: &Expr,
-    d: u32,
+    dest: u32,
 ) -> Result<(), NoMemory>
-    ensures { OnOk result (Emits (rows.delete_keyed scope.now at (lowered.plain_of object.now) (lowered.plain_of key.now) d) lines.old.items lines.new.items) }
+    ensures { OnOk result (Emits
+        (operators.delete_keyed scope.now at (trees.operand_of object.now) (trees.operand_of key.now) dest)
+        lines.old.items lines.new.items) }
 {
-    let stays = kept(scope, object, Some(key), None, &[])?;
-    let (of, next) = base(lines, scope, alloc, stays, object, d)?;
-    key_in(lines, scope, alloc, at, key, next)?;
-    removed_keyed(lines, scope, alloc, at, of, next, after(next)?)?;
-    any_primitive(lines, scope, at, d)
+    let stable = stable_local(scope, object, Some(key), None, &[])?;
+    let (of, next) = lower_base(lines, scope, alloc, stable, object, dest)?;
+    lower_key(lines, scope, alloc, at, key, next)?;
+    remove_keyed(lines, scope, alloc, at, of, next, increment(next)?)?;
+    any_primitive(lines, scope, at, dest)
 }
 
 /// `delete` of something else.
 #[cycle(expression)]
-#[tactic(auto, using(crate::proofs::Growth::growth), unfolding(crate::specs::Rows::delete_value))]
+#[tactic(auto, using(crate::proofs::Growth::growth), unfolding(crate::specs::Operators::delete_value))]
 fn delete_value<'a>(
     lines: &mut Vec<DraftLine>,
     scope: &Scope<'a>,
     alloc: Global,
     at: At,
     tree: &Expr,
-    d: u32,
+    dest: u32,
 ) -> Result<(), NoMemory>
-    ensures { OnOk result (Emits (rows.delete_value scope.now at (lowered.plain_of tree.now) d) lines.old.items lines.new.items) }
+    ensures { OnOk result (Emits
+        (operators.delete_value scope.now at (trees.operand_of tree.now) dest)
+        lines.old.items lines.new.items) }
 {
-    value(lines, scope, alloc, tree, d)?;
-    any_primitive(lines, scope, at, d)
+    value(lines, scope, alloc, tree, dest)?;
+    any_primitive(lines, scope, at, dest)
 }
 
-/// `delete`, by the root of its operand.
+/// `delete`, by the reference that is its operand.
 #[cycle(expression)]
 fn delete<'a>(
     lines: &mut Vec<DraftLine>,
@@ -282,22 +312,26 @@ fn delete<'a>(
     alloc: Global,
     at: At,
     tree: &Expr,
-    d: u32,
+    dest: u32,
 ) -> Result<(), NoMemory>
-    ensures { OnOk result (Emits (rows.delete_of scope.now at (lowered.root_of tree.now) (lowered.plain_of tree.now) d) lines.old.items lines.new.items) }
+    ensures { OnOk result (Emits
+        (operators.delete_of scope.now at (trees.reference_of tree.now) (trees.operand_of tree.now) dest)
+        lines.old.items lines.new.items) }
 {
-    match shape_of(tree) {
-        Shape::Member(object, name) => delete_member(
+    match reference_of(tree) {
+        Reference::Member(object, name) => delete_member(
             lines,
             scope,
             alloc,
             at,
             object,
             name.as_str(),
-            d,
+            dest,
         ),
-        Shape::Keyed(object, key) => delete_keyed(lines, scope, alloc, at, object, key, d),
-        Shape::Named(..) | Shape::Other => delete_value(lines, scope, alloc, at, tree, d),
+        Reference::Keyed(object, key) => delete_keyed(lines, scope, alloc, at, object, key, dest),
+        Reference::Named(..) | Reference::Other => delete_value(
+            lines, scope, alloc, at, tree, dest,
+        ),
     }
 }
 
@@ -310,15 +344,17 @@ pub fn unary<'a>(
     at: At,
     operator: UnaryOperator,
     tree: &Expr,
-    d: u32,
+    dest: u32,
 ) -> Result<(), NoMemory>
-    ensures { OnOk result (Emits (rows.unary_of scope.now at operator (lowered.root_of tree.now) (lowered.plain_of tree.now) d) lines.old.items lines.new.items) }
+    ensures { OnOk result (Emits
+        (operators.unary_of scope.now at operator (trees.reference_of tree.now) (trees.operand_of tree.now) dest)
+        lines.old.items lines.new.items) }
 {
     match operator {
-        UnaryOperator::Delete => delete(lines, scope, alloc, at, tree, d),
-        UnaryOperator::Void => emptied(lines, scope, alloc, at, tree, d),
-        UnaryOperator::TypeOf => type_of(lines, scope, alloc, at, tree, d),
+        UnaryOperator::Delete => delete(lines, scope, alloc, at, tree, dest),
+        UnaryOperator::Void => void_of(lines, scope, alloc, at, tree, dest),
+        UnaryOperator::TypeOf => type_of(lines, scope, alloc, at, tree, dest),
         UnaryOperator::Plus | UnaryOperator::Minus | UnaryOperator::BitNot | UnaryOperator::Not =>
-            operated(lines, scope, alloc, at, tree, d),
+            unary_operation(lines, scope, alloc, at, tree, dest),
     }
 }

@@ -16,14 +16,14 @@ operand::arguments-returns-clause-temps t c = ended_temps _ _ _ _ _ _ c.loop-one
 
 pub list::comma-loop-one-preserved : goal.list::comma-loop-one-preserved
 list::comma-loop-one-preserved t c =
-    more_comma c.args.scope.now c.args.all.now c.args.d _ _ _ c.loop-one.one-index c.one-item.result c.loop-one-test.true c.one-item.is c.in_ok-value.ensures c.loop-one.invariant
+    more_comma c.args.scope.now c.args.all.now c.args.dest _ _ _ c.loop-one.one-index c.one-item.result c.loop-one-test.true c.one-item.is c.in_ok-value.ensures c.loop-one.invariant
 
 pub list::comma-returns : goal.list::comma-returns
 list::comma-returns t c = ended_comma _ _ _ _ _ _ c.loop-one-test.false c.loop-one.invariant
 
 pub list::elements-loop-one-preserved : goal.list::elements-loop-one-preserved
 list::elements-loop-one-preserved t c =
-    let more = more_elements c.args.scope.now c.args.at c.args.all.now c.args.d _ _ _ c.loop-one.one-index c.loop-one.number c.one-item.result c.loop-one-test.true c.one-item.is c.in_ok-element.ensures c.loop-one.invariant in
+    let more = more_elements c.args.scope.now c.args.at c.args.all.now c.args.dest _ _ _ c.loop-one.one-index c.loop-one.number c.one-item.result c.loop-one-test.true c.one-item.is c.in_ok-element.ensures c.loop-one.invariant in
     grind (arith, more)
 
 pub list::elements-returns : goal.list::elements-returns
@@ -31,7 +31,7 @@ list::elements-returns t c = ended_elements _ _ _ _ _ _ _ _ c.loop-one-test.fals
 
 pub list::properties-loop-one-preserved : goal.list::properties-loop-one-preserved
 list::properties-loop-one-preserved t c =
-    more_properties c.args.scope.now c.args.at c.args.all.now c.args.d _ _ _ c.loop-one.one-index c.one-item.result c.loop-one-test.true c.one-item.is c.in_ok-property.ensures c.loop-one.invariant
+    more_properties c.args.scope.now c.args.at c.args.all.now c.args.dest _ _ _ c.loop-one.one-index c.one-item.result c.loop-one-test.true c.one-item.is c.in_ok-property.ensures c.loop-one.invariant
 
 pub list::properties-returns : goal.list::properties-returns
 list::properties-returns t c = ended_properties _ _ _ _ _ _ _ c.loop-one-test.false c.loop-one.invariant

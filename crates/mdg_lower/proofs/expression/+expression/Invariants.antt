@@ -5,24 +5,25 @@ use Rattle.mdg_tree.specs.declared.tree.Expr.{size-Expr}
 use Rattle.mdg_tree.specs.declared.tree.Property.{size-Property}
 use Rattle.mdg_tree.proofs.tree.Expr.TheLaws as expr
 use Rattle.mdg_tree.proofs.tree.Property.TheLaws as property
-use Rattle.mdg_lower.specs.Rows as rows
-use Rattle.mdg_lower.specs.Lowered as lowered
+use Rattle.mdg_lower.specs.Access as access
+use Rattle.mdg_lower.specs.Initialisers as initialisers
+use Rattle.mdg_lower.specs.Trees as trees
 use Rattle.mdg_lower.proofs.expression.+expression.Given as goal
 
-abbrev pub decreases-operand::base : goal.decreases-operand::base
-decreases-operand::base l = 8 * size-Expr l.tree.now + 1
+abbrev pub decreases-operand::lower_base : goal.decreases-operand::lower_base
+decreases-operand::lower_base l = 8 * size-Expr l.tree.now + 1
 
-abbrev pub decreases-operand::key_in : goal.decreases-operand::key_in
-decreases-operand::key_in l = 8 * size-Expr l.key.now + 1
+abbrev pub decreases-operand::lower_key : goal.decreases-operand::lower_key
+decreases-operand::lower_key l = 8 * size-Expr l.key.now + 1
 
 abbrev pub decreases-operand::arguments : goal.decreases-operand::arguments
 decreases-operand::arguments l = 8 * most expr.the_size l.all.now + 1
 
-abbrev pub decreases-operand::finish : goal.decreases-operand::finish
-decreases-operand::finish l = 8 * most expr.the_size l.all.now + 2
+abbrev pub decreases-operand::emit_call : goal.decreases-operand::emit_call
+decreases-operand::emit_call l = 8 * most expr.the_size l.all.now + 2
 
-abbrev pub decreases-operand::guarded : goal.decreases-operand::guarded
-decreases-operand::guarded l = 8 * size-Expr l.tree.now + 1
+abbrev pub decreases-operand::emit_optional : goal.decreases-operand::emit_optional
+decreases-operand::emit_optional l = 8 * size-Expr l.tree.now + 1
 
 abbrev pub decreases-access::member : goal.decreases-access::member
 decreases-access::member l = 8 * size-Expr l.object.now + 2
@@ -48,14 +49,14 @@ decreases-access::named_call l = max (8 * size-Expr l.callee.now) (8 * most expr
 abbrev pub decreases-access::call : goal.decreases-access::call
 decreases-access::call l = max (8 * size-Expr l.callee.now) (8 * most expr.the_size l.all.now) + 5
 
-abbrev pub decreases-operation::operated : goal.decreases-operation::operated
-decreases-operation::operated l = 8 * size-Expr l.tree.now + 2
+abbrev pub decreases-operation::unary_operation : goal.decreases-operation::unary_operation
+decreases-operation::unary_operation l = 8 * size-Expr l.tree.now + 2
 
-abbrev pub decreases-operation::joined : goal.decreases-operation::joined
-decreases-operation::joined l = max (8 * size-Expr l.left.now) (8 * size-Expr l.right.now) + 2
+abbrev pub decreases-operation::binary_operation : goal.decreases-operation::binary_operation
+decreases-operation::binary_operation l = max (8 * size-Expr l.left.now) (8 * size-Expr l.right.now) + 2
 
-abbrev pub decreases-operation::both : goal.decreases-operation::both
-decreases-operation::both l = max (8 * size-Expr l.left.now) (8 * size-Expr l.right.now) + 2
+abbrev pub decreases-operation::logical_operation : goal.decreases-operation::logical_operation
+decreases-operation::logical_operation l = max (8 * size-Expr l.left.now) (8 * size-Expr l.right.now) + 2
 
 abbrev pub decreases-operation::binary : goal.decreases-operation::binary
 decreases-operation::binary l = max (8 * size-Expr l.left.now) (8 * size-Expr l.right.now) + 3
@@ -66,8 +67,8 @@ decreases-operation::conditional l = max (8 * size-Expr l.test.now) (max (8 * si
 abbrev pub decreases-operation::either : goal.decreases-operation::either
 decreases-operation::either l = max (8 * size-Expr l.chosen.now) (8 * size-Expr l.otherwise.now) + 1
 
-abbrev pub decreases-operation::emptied : goal.decreases-operation::emptied
-decreases-operation::emptied l = 8 * size-Expr l.tree.now + 2
+abbrev pub decreases-operation::void_of : goal.decreases-operation::void_of
+decreases-operation::void_of l = 8 * size-Expr l.tree.now + 2
 
 abbrev pub decreases-operation::type_of_name : goal.decreases-operation::type_of_name
 decreases-operation::type_of_name l = 8 * size-Expr l.tree.now + 3
@@ -161,19 +162,19 @@ decreases-value l = 8 * size-Expr l.tree.now
 
 abbrev pub invariant-operand::arguments-loop-one : goal.invariant-operand::arguments-loop-one
 invariant-operand::arguments-loop-one l = record {
-  emits : l.fn.lines.items ++ rows.arguments l.scope (lowered.plains_of l.all) l.d (length l.fn.lines.items)
-      ≡ l.lines.items ++ rows.arguments l.scope (lowered.plains_of (drop l.one-index l.all)) l.next (length l.lines.items);
-  temps : rows.temps l.scope (lowered.plains_of l.all) l.d ≡ l.made ++ rows.temps l.scope (lowered.plains_of (drop l.one-index l.all)) l.next;
+  emits : l.fn.lines.items ++ access.arguments l.scope (trees.operands_of l.all) l.dest (length l.fn.lines.items)
+      ≡ l.lines.items ++ access.arguments l.scope (trees.operands_of (drop l.one-index l.all)) l.next (length l.lines.items);
+  temps : access.temps l.scope (trees.operands_of l.all) l.dest ≡ l.made ++ access.temps l.scope (trees.operands_of (drop l.one-index l.all)) l.next;
 }
 
 abbrev pub invariant-list::comma-loop-one : goal.invariant-list::comma-loop-one
-invariant-list::comma-loop-one l = l.fn.lines.items ++ rows.comma l.scope (lowered.plains_of l.all) l.d (length l.fn.lines.items)
-    ≡ l.lines.items ++ rows.comma l.scope (lowered.plains_of (drop l.one-index l.all)) l.d (length l.lines.items)
+invariant-list::comma-loop-one l = l.fn.lines.items ++ initialisers.comma l.scope (trees.operands_of l.all) l.dest (length l.fn.lines.items)
+    ≡ l.lines.items ++ initialisers.comma l.scope (trees.operands_of (drop l.one-index l.all)) l.dest (length l.lines.items)
 
 abbrev pub invariant-list::elements-loop-one : goal.invariant-list::elements-loop-one
-invariant-list::elements-loop-one l = l.fn.lines.items ++ rows.elements l.scope l.at (lowered.plains_of l.all) 0 l.d (length l.fn.lines.items)
-    ≡ l.lines.items ++ rows.elements l.scope l.at (lowered.plains_of (drop l.one-index l.all)) l.number l.d (length l.lines.items)
+invariant-list::elements-loop-one l = l.fn.lines.items ++ initialisers.elements l.scope l.at (trees.operands_of l.all) 0 l.dest (length l.fn.lines.items)
+    ≡ l.lines.items ++ initialisers.elements l.scope l.at (trees.operands_of (drop l.one-index l.all)) l.number l.dest (length l.lines.items)
 
 abbrev pub invariant-list::properties-loop-one : goal.invariant-list::properties-loop-one
-invariant-list::properties-loop-one l = l.fn.lines.items ++ rows.properties l.scope l.at (map lowered.property_part l.all) l.d (length l.fn.lines.items)
-    ≡ l.lines.items ++ rows.properties l.scope l.at (map lowered.property_part (drop l.one-index l.all)) l.d (length l.lines.items)
+invariant-list::properties-loop-one l = l.fn.lines.items ++ initialisers.properties l.scope l.at (map trees.property_part l.all) l.dest (length l.fn.lines.items)
+    ≡ l.lines.items ++ initialisers.properties l.scope l.at (map trees.property_part (drop l.one-index l.all)) l.dest (length l.lines.items)

@@ -1,7 +1,0 @@
-use Rattle.std.proofs.Common.{◌≡◌, ◌++◌, drop}
-use Rattle.mdg_lower.specs.Sharing.{member_rows}
-use Rattle.mdg_lower.proofs.sharing.put_members.Given as goal
-
-abbrev pub invariant-loop-entry : goal.invariant-loop-entry
-invariant-loop-entry l =
-    l.fn.rows ++ member_rows l.number.0 l.base l.entries ≡ l.rows ++ member_rows l.number.0 l.base (drop l.entry-index l.entries)

@@ -1,7 +1,0 @@
-use Rattle.std.proofs.Common.{arith}
-use Rattle.mdg_lower.specs.Walking.{stmt_lists-For}
-use Rattle.mdg_lower.proofs.WalkLemmas.{grows_by_four}
-use Rattle.mdg_lower.proofs.walk.+gather.Goals as goal
-
-pub statement-returns-in_ok-optional-in-For-2 : goal.statement-returns-in_ok-optional-in-For-2
-statement-returns-in_ok-optional-in-For-2 t c = grind (arith, stmt_lists-For, grows_by_four)
