@@ -1,0 +1,16 @@
+pub mod BlockLemmas
+pub mod CountLemmas
+pub mod NumberLemmas
+pub mod OneToOne
+pub mod TakenLemmas
+pub mod AtLemmas
+pub mod FitLemmas
+pub mod HolderLemmas
+pub mod RuleLemmas
+pub mod SetLemmas
+pub mod GraphLemmas
+pub mod GatherLemmas
+pub mod WithinLemmas
+pub mod FactCountLemmas
+pub mod LeastLemmas
+pub mod BitLemmas
