@@ -11,7 +11,7 @@ use Rattle.mdg_site.specs.Nodes.{IsNode, node_count, node_number}
 use Rattle.mdg_site.specs.Rows.{IsRow, row_count, row_number}
 use Rattle.mdg_site.specs.Rules.{Gives}
 use Rattle.mdg_site.proofs.GraphLemmas.{closed_has, none_within}
-use Rattle.mdg_site.proofs.OneToOne.{node_same, row_same}
+use Rattle.mdg_site.proofs.NumberLemmas.{node_lt, row_lt}
 use Rattle.mdg_site.proofs.RuleLemmas.{both_numbers, given_grows, has_named}
 use Rattle.mdg_site.proofs.SetLemmas.{along_cases}
 use Rattle.mdg_site.proofs.WithinLemmas.{given_within}
@@ -44,9 +44,17 @@ stands_given l F has (f ∷ fs) d r n h = ⊎_elim
     (λ e. stands_given l F has fs d.1 r n e)
     (along_cases none f fs r n h)
 
-pub graph_of : (l : Laid) (F : NumberSet) → IsGraph l F → ((r n : ℕ) → Has F r n → (r < row_count l) × (n < node_count l)) → IsGraphOf l F
-graph_of l F g ranged = record {
-  closed = closed_names l F (λ r n h. (g r n).1 (given_within l F (λ q m k. (g q m).0 k) (row_count l) (node_count l) ranged r n h));
-  least = λ G c r n h. let i = (g r n).0 h in closed_has l none G (closed_numbers l G c) (none_within G) i.steps i.derived r n i.stands;
-  given = λ r n h. let i = (g r n).0 h in stands_given l F (λ q m k. (g q m).1 k) i.steps i.derived r n i.stands;
-}
+module _ (l : Laid) (F : NumberSet) (g : IsGraph l F) where
+  pub graph_given : (r n : ℕ) → Has F r n → GivesNumbers l F r n
+  graph_given r n h = let i = (g r n).0 h in stands_given l F (λ q m k. (g q m).1 k) i.steps i.derived r n i.stands
+
+  -- each fact of the graph names a row and a node
+  pub graph_ranged : (r n : ℕ) → Has F r n → (r < row_count l) × (n < node_count l)
+  graph_ranged r n h = let i = graph_given r n h in (row_lt l i.row r i.row_is, node_lt l i.node n i.node_is)
+
+  pub graph_of : IsGraphOf l F
+  graph_of = record {
+    closed = closed_names l F (λ r n h. (g r n).1 (given_within l F (λ q m k. (g q m).0 k) (row_count l) (node_count l) graph_ranged r n h));
+    least = λ G c r n h. let i = (g r n).0 h in closed_has l none G (closed_numbers l G c) (none_within G) i.steps i.derived r n i.stands;
+    given = graph_given;
+  }

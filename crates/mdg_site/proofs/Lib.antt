@@ -14,3 +14,4 @@ pub mod WithinLemmas
 pub mod FactCountLemmas
 pub mod LeastLemmas
 pub mod BitLemmas
+pub mod GivenLemmas

@@ -1,5 +1,5 @@
 -- What the code says to the rules.
-use Rattle.std.specs.Prelude.{ℕ, ◌%◌, ◌==◌, ◌<◌, nat_lt, Bool, true, false, ◌||◌, ◌&&◌, not, List, length, codes, slice_get, Option, Some, None}
+use Rattle.std.specs.Prelude.{◌≡◌, ℕ, ◌%◌, ◌==◌, ◌<◌, nat_lt, Bool, true, false, ◌||◌, ◌&&◌, not, List, length, codes, slice_get, Option, Some, None}
 use Rattle.std.specs.List.{list_any}
 use Rattle.std.specs.Str.{bytes_eq}
 use Rattle.mdg_base.specs.declared.number.Column.{Column}
@@ -127,6 +127,11 @@ outlives (IsFunction f) = true
 outlives (IsShared b) = true
 outlives Vague = true
 outlives Foreign = true
+
+-- the row with this number, where it is one of these
+abbrev pub IsLasting : Laid → ℕ → Option Row → Type 0
+IsLasting l r None = (row : Row) → row_number l row ≡ Some r → outlives row ≡ false
+IsLasting l r (Some row) = (row_number l row ≡ Some r) × (outlives row ≡ true)
 
 abbrev pub is_at : ℕ → ℕ → Option ℕ → Bool
 is_at sites s None = false

@@ -49,7 +49,7 @@ pub record IsGraphOf (l : Laid) (F : NumberSet) : Type 0 where
   pub given : (r n : ℕ) → Has F r n → GivesNumbers l F r n
 
 abbrev pub IsLeastGraph : Type 0
-IsLeastGraph = (l : Laid) (F : NumberSet) → IsGraph l F → ((r n : ℕ) → Has F r n → (r < row_count l) × (n < node_count l)) → IsGraphOf l F
+IsLeastGraph = (l : Laid) (F : NumberSet) → IsGraph l F → IsGraphOf l F
 
 pub record HasOneBit (l : Laid) : Type 0 where
   -- the bit of a fact is one of the words of all rows

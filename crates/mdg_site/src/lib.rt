@@ -14,11 +14,13 @@ mod shape;
 mod sizes;
 mod slot;
 mod tables;
+#[cfg(test)]
+mod tests;
 
 pub use entry::layout;
 pub use facts::Facts;
 pub use laws::{law_bits, law_graph, law_numbers, law_rules};
 pub use numbering::Layout;
 pub use refusal::SiteRefusal;
-pub use row::{Fact, Row};
+pub use row::{Fact, Row, outlives};
 pub use shape::{Shape, first_of, has_known, second_of, shape_of};

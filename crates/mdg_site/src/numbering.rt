@@ -1,6 +1,7 @@
 //! The numbers of a package's nodes and rows.
-ghost use Rattle.std.specs.Prelude.{◌≡◌, ◌+◌, ◌*◌, ◌/◌, ◌%◌, ◌^◌, ◌<◌, ◌≤◌, ◌↔◌, IfOk, IsSome, IsTrue, Some, length};
+ghost use Rattle.std.specs.Prelude.{◌≡◌, ◌+◌, ◌*◌, ◌/◌, ◌%◌, ◌^◌, ◌<◌, ◌≤◌, IfOk, Some, length};
 ghost use Rattle.mdg_site.specs.Answers.{node_limit, word_limit};
+ghost use Rattle.mdg_site.specs.CodeTests.{IsLasting, is_object};
 ghost use Rattle.mdg_site.specs.Laid.{laid, parameters_in};
 ghost use Rattle.mdg_site.specs.Nodes.{node_count, node_number, number_of, object_count, object_number, shared_count};
 ghost use Rattle.mdg_site.specs.Rows.{column_count, row_count, row_number, start, width_of, word_count, word_index};
@@ -9,7 +10,7 @@ ghost use Rattle.mdg_base.specs.declared.node_name.NodeName.TheVariants.{Ext, Sh
 
 use crate::build::{node_names, object_names};
 use crate::count::width;
-use crate::row::Row;
+use crate::row::{Row, outlives};
 use crate::shape::Shape;
 use crate::tables::Tables;
 use mdg_base::{CellId, Column, FunId, NoMemory, Node, NodeName, SharedId, Site};
@@ -170,11 +171,18 @@ impl Layout {
         self.node_of(NodeName::Shared(shared))
     }
 
-    /// Whether the node stands for an object, so that it has fields.
-    pub fn is_object(&self, node: NodeName) -> bool
-        ensures { IsTrue result ↔ IsSome (object_number self.now node) }
+    /// How many parameters the function has. Where there is no such function it has none.
+    pub fn parameters_in(&self, function: FunId) -> u32
+        ensures { result ≡ parameters_in self.now function.0 }
     {
-        self.tables.object_of(node).is_some()
+        self.tables.parameters_in(function)
+    }
+
+    /// Whether there is such a node and it stands for an object, which has fields.
+    pub fn is_object(&self, node: NodeName) -> bool
+        ensures { result ≡ is_object self.now node }
+    {
+        self.tables.is_object(node)
     }
 
     /// The number of the row, where there is such a row.
@@ -229,6 +237,16 @@ impl Layout {
         } else {
             self.late_row_at(row)
         }
+    }
+
+    /// The row that has this number, where it is one that outlives a statement and that no statement has of its
+    /// own. The rows of locals, the first in number, are none of these.
+    pub fn lasting_at(&self, row: u32) -> Option<Row>
+        requires in_range { row < row_count self.now }
+        ensures { IsLasting self.now row result }
+    {
+        let found = self.row_at(row);
+        if outlives(found) { Some(found) } else { None }
     }
 
     /// The row that has this number, of the kinds after `Dep`.

@@ -1,3 +1,6 @@
+ghost use Rattle.std.specs.Prelude.{◌≡◌};
+ghost use Rattle.mdg_site.specs.CodeTests.{outlives};
+
 use mdg_base::{CellId, Column, FunId, Local, NodeName, SharedId, Site};
 
 /// A row of the graph: a set of nodes. Nodes are meant by their names, so that a row can be named where no
@@ -46,4 +49,20 @@ pub enum Row {
 pub struct Fact {
     pub row: Row,
     pub node: NodeName,
+}
+
+/// Whether the row outlives a statement, and no statement has it of its own.
+pub fn outlives(row: Row) -> bool
+    ensures { result ≡ outlives row }
+{
+    match row {
+        Row::Cell(..)
+        | Row::Field(..)
+        | Row::Exp
+        | Row::IsFunction(..)
+        | Row::IsShared(..)
+        | Row::Vague
+        | Row::Foreign => true,
+        Row::Loc(..) | Row::Newer(..) | Row::Dep(..) | Row::Ret(..) | Row::Known(..) => false,
+    }
 }

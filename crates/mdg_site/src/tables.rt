@@ -3,6 +3,7 @@ ghost use Rattle.std.specs.Prelude.{◌≡◌, ◌+◌, ◌-◌, ◌*◌, ◌^�
 ghost use Rattle.mdg_code.specs.Ranges.{IsCounted};
 ghost use Rattle.mdg_site.specs.Answers.{node_limit, word_limit};
 ghost use Rattle.mdg_site.specs.Blocks.{below, grid, shift, slot, slot_at, sum_below};
+ghost use Rattle.mdg_site.specs.CodeTests.{is_object};
 ghost use Rattle.mdg_site.specs.Laid.{laid, locals_at, parameters_in, site_count};
 ghost use Rattle.mdg_site.specs.Nodes.{early_count, node_count, node_number, node_size_at, object_count, object_number, object_size_at, shared_count, source_count};
 ghost use Rattle.mdg_site.specs.Rows.{column_count, kind, kind_size, known_size_at, place, row_count, row_number, start, word_count};
@@ -220,6 +221,32 @@ impl Tables {
         ensures { result ≡ object_count self.now }
     {
         self.early_count() + last(self.object_starts())
+    }
+
+    /// How many parameters the function has. Where there is no such function it has none.
+    pub fn parameters_in(&self, function: FunId) -> u32
+        ensures { result ≡ parameters_in self.now function.0 }
+    {
+        let starts = self.source_starts();
+        let at = function.0 as usize;
+        if at + 1 < starts.len() {
+            starts[at + 1] - starts[at]
+        } else {
+            0
+        }
+    }
+
+    /// Whether the node stands for an object, which has fields.
+    pub fn is_object(&self, node: NodeName) -> bool
+        ensures { result ≡ is_object self.now node }
+    {
+        match node {
+            NodeName::Src(function, parameter) => parameter < self.parameters_in(function),
+            NodeName::Shared(shared) => shared.0 < self.shared,
+            NodeName::Site(site) => self.shape_at(site).fields,
+            NodeName::Ext(site) => self.shape_at(site).outside,
+            NodeName::Caller => false,
+        }
     }
 
     /// The number of the node, where there is such a node.
