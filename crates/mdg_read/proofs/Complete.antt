@@ -611,8 +611,8 @@ module _ (ts : Tokens) (n : ℕ) (expr : Production → ℕ → Option (Parsed E
   form_ok production.Member t i j d low ends = member_ok d low ends
   form_ok production.Primary t i j d low ends = primary_ok d low
 
-  test_ok : (c : Expr) (i m : ℕ) → terminal_at ts i ≡ s.OpenParen → Spells ts (production.Expression false) c (i + 1) m → terminal_at ts m ≡ s.CloseParen → height c ≤ n → statements.test ts n expr stmt i ≡ Some (found c (m + 1))
-  unfolding Rattle.mdg_read.specs.ReferenceStatements.test
+  test_ok : (c : Expr) (i m : ℕ) → terminal_at ts i ≡ s.OpenParen → Spells ts (production.Expression false) c (i + 1) m → terminal_at ts m ≡ s.CloseParen → height c ≤ n → statements.condition ts n expr stmt i ≡ Some (found c (m + 1))
+  unfolding Rattle.mdg_read.specs.ReferenceStatements.condition
   test_ok c i m o d e low =
       let ends : power ts false m ≤ 0 = rw e (omega arith) in
       rw (expect_ok ts s.OpenParen i o, reads (production.Expression false) c (i + 1) m d low ends, expect_ok ts s.CloseParen m e) refl

@@ -909,11 +909,11 @@ module _ (ts : Tokens) (n : ℕ) (expr : Production → ℕ → Option (Parsed E
     found : FoundExpr ts n (production.Expression false) (i + 1) c
     close : terminal_at ts c.next ≡ s.CloseParen
 
-  test_then : {B : Type 0} (i : ℕ) (f : Parsed Expr → Option B) (y : B) → (statements.test ts n expr stmt i >>= f) ≡ Some y
+  test_then : {B : Type 0} (i : ℕ) (f : Parsed Expr → Option B) (y : B) → (statements.condition ts n expr stmt i >>= f) ≡ Some y
       → (c : Parsed Expr) × FoundTest i c × (f (record { tree = c.tree; height = c.height; next = c.next + 1 }) ≡ Some y)
-  unfolding Rattle.mdg_read.specs.ReferenceStatements.test
+  unfolding Rattle.mdg_read.specs.ReferenceStatements.condition
   test_then i f y e =
-      let p = bind_ok (statements.test ts n expr stmt i) f y e in
+      let p = bind_ok (statements.condition ts n expr stmt i) f y e in
       let o = expect_then ts s.OpenParen i _ p.0 refl p.1 in
       let c = bind_ok (expr (production.Expression false) (i + 1)) _ p.0 o.1 in
       let v = expect_then ts s.CloseParen c.0.next _ p.0 refl c.2 in

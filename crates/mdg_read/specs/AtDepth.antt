@@ -172,7 +172,7 @@ module _ (ts : List Token) (n : ℕ) where
   otherwise = statements.otherwise ts n (expr_at ts n) (stmt_at ts n)
 
   abbrev pub test : ℕ → Option (Parsed Expr)
-  test = statements.test ts n (expr_at ts n) (stmt_at ts n)
+  test = statements.condition ts n (expr_at ts n) (stmt_at ts n)
 
   abbrev pub if_statement : ℕ → Option (Parsed Stmt)
   if_statement = statements.if_statement ts n (expr_at ts n) (stmt_at ts n)

@@ -65,8 +65,8 @@ module _ (ts : Tokens) (n : ℕ) (expr : Production → ℕ → Option (Parsed E
       else Some (record { tree = st.If (position_at ts i) c.tree a.tree; height = max c.height a.height + 1; next = a.next })
 
   -- an expression in parentheses, the first of them at i; what is read ends after the other
-  unfoldable pub test : ℕ → Option (Parsed Expr)
-  test i = do
+  unfoldable pub condition : ℕ → Option (Parsed Expr)
+  condition i = do
     j ← expect ts s.OpenParen i
     c ← expr (production.Expression false) j
     m ← expect ts s.CloseParen c.next
@@ -74,7 +74,7 @@ module _ (ts : Tokens) (n : ℕ) (expr : Production → ℕ → Option (Parsed E
 
   unfoldable pub if_statement : ℕ → Option (Parsed Stmt)
   if_statement i = do
-    c ← test (i + 1)
+    c ← condition (i + 1)
     a ← stmt false c.next
     otherwise i c a
 
@@ -82,13 +82,13 @@ module _ (ts : Tokens) (n : ℕ) (expr : Production → ℕ → Option (Parsed E
   do_while i = do
     a ← stmt false (i + 1)
     j ← expect ts s.While a.next
-    c ← test j
+    c ← condition j
     m ← insert_semicolon ts terminator.Loop c.next
     Some (record { tree = st.DoWhile (position_at ts i) a.tree c.tree; height = max a.height c.height + 1; next = m })
 
   unfoldable pub while_statement : ℕ → Option (Parsed Stmt)
   while_statement i = do
-    c ← test (i + 1)
+    c ← condition (i + 1)
     a ← stmt false c.next
     Some (record { tree = st.While (position_at ts i) c.tree a.tree; height = max c.height a.height + 1; next = a.next })
 

@@ -72,7 +72,7 @@ impl<
     }
 
     /// An expression in parentheses that are no part of its tree.
-    #[tactic(auto, unfolding(crate::specs::ReferenceStatements::test))]
+    #[tactic(auto, unfolding(crate::specs::ReferenceStatements::condition))]
     pub fn test(&self, at: usize) -> Result<Parsed<Expr>, ReadError>
         requires ready { Ready self.now.tokens.now self.now.terminals.now self.now.depth (F.pre self.now.expr) (F.post self.now.expr) (S.pre self.now.stmt) (S.post self.now.stmt) }
         ensures reads { Gives (at_depth.test self.now.tokens.now self.now.depth at) result }
